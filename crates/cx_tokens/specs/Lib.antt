@@ -1,0 +1,4 @@
+pub mod Classes
+pub mod Marks
+pub mod Tokens
+pub mod Words
