@@ -1,0 +1,5 @@
+pub mod Chains
+pub mod Cuts
+pub mod NameLookups
+pub mod Fronts
+pub mod Walks

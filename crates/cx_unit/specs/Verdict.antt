@@ -1,0 +1,28 @@
+-- The verdict of the bytes of a unit.
+use Rattle.std.specs.Prelude.{◌≡◌, ℕ, Bool, true, false, List, [], length, nat_lt}
+use Rattle.cx_base.specs.declared.rule.Rule.TheVariants as rule
+use Rattle.cx_source.specs.Contents.{longest_source}
+use Rattle.cx_tokens.specs.declared.token.Token.{Token}
+use Rattle.cx_tokens.specs.Marks.{mark_of}
+use Rattle.cx_tokens.specs.Tokens.{Lexes}
+use Rattle.cx_unit.specs.declared.verdict.Verdict.{Verdict}
+use Rattle.cx_unit.specs.declared.verdict.Verdict.TheVariants.{Refused}
+use Rattle.cx_unit.specs.Values.{verdict_on}
+
+-- too many bytes, told at the source's first place
+abbrev pub source_too_long : Verdict
+source_too_long = Refused (record { span = record { start = mark_of []; end = mark_of [] }; rule = rule.SourceTooLong; frames = [] })
+
+-- some tokens of the bytes have this verdict
+pub record IsVerdictOfTokens (bytes : List ℕ) (verdict : Verdict) : Type 0 where
+  pub tokens : List Token
+  pub lexed : Lexes bytes tokens
+  pub judged : verdict ≡ verdict_on tokens
+
+abbrev pub IsVerdictIf : Bool → List ℕ → Verdict → Type 0
+IsVerdictIf true bytes verdict = verdict ≡ source_too_long
+IsVerdictIf false bytes verdict = IsVerdictOfTokens bytes verdict
+
+-- the bytes that were read have this verdict: there are too many, or it is that of their tokens
+abbrev pub IsVerdict : List ℕ → Verdict → Type 0
+IsVerdict bytes verdict = IsVerdictIf (nat_lt longest_source (length bytes)) bytes verdict
