@@ -1,0 +1,22 @@
+pub mod Lists
+pub mod Both
+pub mod Parts
+pub mod Elsewhere
+pub mod Turns
+pub mod Many
+pub mod Heads
+pub mod Steps
+pub mod Choices
+pub mod Levels
+pub mod Sides
+pub mod Unless
+pub mod Loops
+pub mod Factor
+pub mod Tail
+pub mod Trailed
+pub mod Classes
+pub mod Answered
+pub mod Names
+pub mod Sames
+pub mod Plain
+mod Checks
