@@ -1,0 +1,5 @@
+pub mod Ranges
+pub mod Conversions
+pub mod Literals
+pub mod Bits
+pub mod Operations

@@ -1,0 +1,10 @@
+pub mod Lists
+pub mod Rows
+pub mod Coming
+pub mod Totals
+pub mod Extents
+pub mod Looking
+pub mod Levels
+pub mod Asked
+pub mod Keeping
+pub mod Closing

@@ -1,0 +1,9 @@
+use Rattle.std.proofs.Common.{ap, ◌∙◌, sym, get_or, max}
+use Rattle.cx_types.specs.declared.facts.Measure.{Measure}
+use Rattle.cx_types.specs.declared.decl.Extent.{Extent}
+use Rattle.cx_types.specs.Parts.{laid}
+use Rattle.cx_types.proofs.Totals.{most-more, no_part}
+use Rattle.cx_types.proofs.sums.strictest_align.Goals as goal
+
+pub loop-part-preserved : goal.loop-part-preserved
+loop-part-preserved c = c.max-align.ensures ∙ ap (λ (e : Extent). max e.align c.loop-part.align) c.laid_extent.ensures ∙ ap (λ n. max (laid (get_or c.args.parts.now c.loop-part.part-index no_part)).align n) c.loop-part.invariant ∙ sym (most-more (λ (m : Measure). (laid m).align) c.args.parts.now c.loop-part.part-index c.loop-part-test.true)

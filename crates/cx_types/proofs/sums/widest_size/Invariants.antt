@@ -1,0 +1,8 @@
+use Rattle.std.proofs.Common.{◌≡◌, map, take}
+use Rattle.cx_types.specs.declared.facts.Measure.{Measure}
+use Rattle.cx_types.specs.Questions.{most}
+use Rattle.cx_types.specs.Parts.{laid}
+use Rattle.cx_types.proofs.sums.widest_size.Given as goal
+
+abbrev pub invariant-loop-part : goal.invariant-loop-part
+invariant-loop-part l = l.size ≡ most (map (λ (m : Measure). (laid m).size) (take l.part-index l.parts))

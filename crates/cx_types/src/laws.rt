@@ -1,0 +1,30 @@
+//! Laws of the definitions, for what stands above: each is a function whose contract it is.
+
+ghost use Rattle.std.specs.Prelude.{◌≡◌, ℕ, Bool, Option, Some};
+ghost use Rattle.cx_types.specs.Tables.{Tables, Grows};
+ghost use Rattle.cx_types.specs.Questions.{Part, asked, depth_of, cells_of, nodes_of, literal_of, extent_of, part_answer};
+
+use crate::decl::Extent;
+
+/// Tables grow to themselves, and on and on.
+pub fn growth_is_an_order()
+    ensures reflexive { (t : Tables) → Grows t t }
+    ensures transitive { (t u v : Tables) → Grows t u → Grows u v → Grows t v }
+{}
+
+/// What was answered stays answered so where the tables grow.
+pub fn answers_stay()
+    ensures depth { (t u : Tables) → Grows t u → (p : Part) (n : ℕ) → asked depth_of t p ≡ Some n → asked depth_of u p ≡ Some n }
+    ensures cells { (t u : Tables) → Grows t u → (p : Part) (n : ℕ) → asked cells_of t p ≡ Some n → asked cells_of u p ≡ Some n }
+    ensures nodes { (t u : Tables) → Grows t u → (p : Part) (n : ℕ) → asked nodes_of t p ≡ Some n → asked nodes_of u p ≡ Some n }
+    ensures literal { (t u : Tables) → Grows t u → (p : Part) (b : Bool) → asked literal_of t p ≡ Some b → asked literal_of u p ≡ Some b }
+    ensures extent { (t u : Tables) → Grows t u → (p : Part) (e : Option Extent) → asked extent_of t p ≡ Some e → asked extent_of u p ≡ Some e }
+{}
+
+/// Where the depth is known, a question answers a part by its answers for the parts below: the bound on the levels is
+/// no matter.
+pub fn questions_open()
+    ensures cells { (t : Tables) (p : Part) (d : ℕ) → asked depth_of t p ≡ Some d → asked cells_of t p ≡ part_answer cells_of t (asked cells_of t) p }
+    ensures literal { (t : Tables) (p : Part) (d : ℕ) → asked depth_of t p ≡ Some d → asked literal_of t p ≡ part_answer literal_of t (asked literal_of t) p }
+    ensures extent { (t : Tables) (p : Part) (d : ℕ) → asked depth_of t p ≡ Some d → asked extent_of t p ≡ part_answer extent_of t (asked extent_of t) p }
+{}
