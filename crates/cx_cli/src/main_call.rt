@@ -5,10 +5,9 @@ ghost use Rattle.cx_source.specs.Contents.{read_of};
 ghost use Rattle.cx_cli.specs.Answers.{HasReport, IsVerdictOn, IsWriteFault, Reports, Writes};
 
 use crate::Status;
-use cx_base::standard_limits;
+use cx_base::{Memory, standard_limits};
 use cx_source::{ReadAnswer, Sink, Source, read_all, write_all};
-use cx_tokens::lex;
-use cx_unit::{Mode, Verdict, report, run_unit, too_long};
+use cx_unit::{Mode, Verdict, report, too_long, verdict_on};
 use std::alloc::Global;
 
 // The longest source, in bytes.
@@ -34,12 +33,9 @@ fn judged<S: Source>(alloc: Global, source: &mut S) -> Result<Verdict, NoVerdict
         Err(ReadAnswer::ReadFault) => return Err(NoVerdict::ReadFault),
         Err(ReadAnswer::Memory) => return Err(NoVerdict::Memory),
     };
-    let Ok(tokens) = lex(alloc, &bytes) else {
-        return Err(NoVerdict::Memory);
-    };
-    match run_unit(alloc, &tokens, standard_limits()) {
+    match verdict_on(alloc, &bytes, standard_limits()) {
         Ok(verdict) => Ok(verdict),
-        Err(_) => Err(NoVerdict::Memory),
+        Err(Memory) => Err(NoVerdict::Memory),
     }
 }
 

@@ -78,7 +78,12 @@ fn constants_and_faults(rt: HostRuntime) -> Result<(), Fail> {
             (
                 "an octal literal",
                 "constexpr int a = 010;\n",
-                "1:19-1:22 [profile] left-out\n",
+                "1:15 constexpr a = 8\naccepted 1\n",
+            ),
+            (
+                "a lexical fault behind what is left out",
+                "constexpr int a = (08);\n",
+                "1:20-1:22 [lex.icon] bad-number\n",
             ),
             (
                 "a keyword as a name",

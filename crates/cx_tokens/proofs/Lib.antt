@@ -1,2 +1,9 @@
-pub mod Cutting
-pub mod Walked
+pub mod Places
+pub mod Parts
+pub mod EachFlaw
+pub mod MarkSteps
+pub mod Fit
+pub mod Stepping
+pub mod Cuts
+pub mod Reach
+pub mod Examples

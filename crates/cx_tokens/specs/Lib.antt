@@ -1,4 +1,15 @@
-pub mod Classes
+pub mod Bytes
+pub mod Cut
+pub mod Faults
+pub mod Literals
 pub mod Marks
+pub mod Names
+pub mod Numbers
+pub mod Pieces
+pub mod Punctuators
+pub mod Scanning
+pub mod Shapes
+pub mod Space
+pub mod Steps
 pub mod Tokens
-pub mod Words
+pub mod Values

@@ -1,18 +1,13 @@
--- Where a byte stands: counted in the bytes before it.
-use Rattle.std.specs.Prelude.{ℕ, Bool, ◌+◌, ◌==◌, not, List, length, reverse, count_by, take_while}
+-- Marks count from the bytes before them.
+use Rattle.std.specs.Prelude.{ℕ, not, ◌+◌, List, length, reverse, count_by}
+use Rattle.std.specs.List.{prefix_len}
 use Rattle.cx_base.specs.declared.diag.Mark.{Mark}
+use Rattle.cx_tokens.specs.Bytes.{is_line_feed}
 
-abbrev pub is_line_feed : ℕ → Bool
-is_line_feed b = b == 10
+-- how many bytes stand behind the last line feed
+abbrev pub bytes_in_line : List ℕ → ℕ
+bytes_in_line before = prefix_len (λ b. not (is_line_feed b)) (reverse before)
 
--- the bytes since the last line feed, or all where there is none, from the last to the first
-abbrev pub last_line : List ℕ → List ℕ
-last_line bytes = take_while (λ b. not (is_line_feed b)) (reverse bytes)
-
--- the place behind these bytes: its line is one more than their line feeds, its column one more than the bytes since the last of them
+-- One line more than there are line feeds before it, and one column more than there are bytes since the last of them.
 abbrev pub mark_of : List ℕ → Mark
-mark_of before = record {
-  byte = length before;
-  line = count_by is_line_feed before + 1;
-  col = length (last_line before) + 1;
-}
+mark_of before = record { byte = length before; line = 1 + count_by is_line_feed before; col = 1 + bytes_in_line before }

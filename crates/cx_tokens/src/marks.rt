@@ -1,23 +1,15 @@
-ghost use Rattle.std.specs.Prelude.{◌≡◌, ◌+◌, ◌<◌, ◌≤◌, ◌^◌, ◌++◌, ◌∷◌, [], ℕ, List, length};
+//! Marks.
+ghost use Rattle.std.specs.Prelude.{◌≡◌, ◌<◌, ◌≤◌, ◌+◌, ◌^◌, length, take};
 ghost use Rattle.cx_tokens.specs.Marks.{mark_of};
+ghost use Rattle.cx_tokens.specs.Steps.{mark_after};
 
 use cx_base::Mark;
 
-/// The place before all bytes.
-pub const FIRST: Mark = Mark {
-    byte: 0,
-    line: 1,
-    col: 1,
-};
-
-fn behind_byte(mark: Mark, b: u8) -> Mark
+fn mark_after(mark: Mark, b: u8) -> Mark
     requires byte { mark.byte + 1 < 2 ^ 32 }
     requires line { mark.line + 1 < 2 ^ 32 }
     requires col { mark.col + 1 < 2 ^ 32 }
-    ensures place { (before : List ℕ) → mark ≡ mark_of before → result ≡ mark_of (before ++ b ∷ []) }
-    ensures byte { result.byte ≤ mark.byte + 1 }
-    ensures line { result.line ≤ mark.line + 1 }
-    ensures col { result.col ≤ mark.col + 1 }
+    ensures { result ≡ mark_after mark b }
 {
     if b == b'\n' {
         Mark {
@@ -34,16 +26,19 @@ fn behind_byte(mark: Mark, b: u8) -> Mark
     }
 }
 
-/// The place behind these bytes, of which the first stands at `mark`.
-pub fn behind(mark: Mark, bytes: &[u8]) -> Mark
-    requires byte { mark.byte + length bytes.now < 2 ^ 32 }
-    requires line { mark.line + length bytes.now < 2 ^ 32 }
-    requires col { mark.col + length bytes.now < 2 ^ 32 }
-    ensures { (before : List ℕ) → mark ≡ mark_of before → result ≡ mark_of (before ++ bytes.now) }
+/// The mark at a place of the text, given that of an earlier place.
+pub fn mark_at(bytes: &[u8], from: usize, start: Mark, to: usize) -> Mark
+    requires short { length bytes.now ≤ 4_194_305 }
+    requires ordered { from ≤ to }
+    requires within { to ≤ length bytes.now }
+    requires is_start { start ≡ mark_of (take from bytes.now) }
+    ensures { result ≡ mark_of (take to bytes.now) }
 {
-    let mut at = mark;
-    'bytes: for b in bytes {
-        at = behind_byte(at, *b);
+    let mut mark = start;
+    let mut at = from;
+    'places: while at < to {
+        mark = mark_after(mark, bytes[at]);
+        at += 1;
     }
-    at
+    mark
 }

@@ -5,7 +5,7 @@ use Rattle.std.specs.List.{slice_split}
 use Rattle.std.proofs.lemmas.List.{drop_all}
 use Rattle.cx_base.specs.declared.diag.Mark.{Mark}
 use Rattle.cx_base.specs.declared.diag.Span.{Span}
-use Rattle.cx_tokens.specs.declared.token.Token.{Token}
+use Rattle.cx_tokens.specs.declared.Token.{Token}
 use Rattle.cx_unit.specs.Units.{StartsWith, is_sign, is_star}
 use Rattle.cx_unit.specs.Values.{Values, chain_value, go_on, in_range, join, product_value, sum_all, sum_of, times_all, value_of}
 use Rattle.cx_unit.proofs.Cuts.{filter_front, front, front_is, split_front, starts_front}

@@ -4,9 +4,9 @@ use Rattle.std.specs.Prelude.{codes, if◌then◌else◌, not}
 use Rattle.std.specs.Str.{bytes_eq}
 use Rattle.std.specs.List.{onto_first}
 use Rattle.std.proofs.lemmas.List.{take_more, drop_all, get_or_default}
-use Rattle.cx_tokens.specs.declared.token.Token.{Token}
-use Rattle.cx_tokens.specs.declared.token.TokenKind.{TokenKind}
-use Rattle.cx_tokens.specs.declared.token.TokenKind.TheVariants as kind
+use Rattle.cx_tokens.specs.declared.Token.{Token}
+use Rattle.cx_tokens.specs.declared.TokenKind.{TokenKind}
+use Rattle.cx_tokens.specs.declared.TokenKind.TheVariants as kind
 use Rattle.cx_unit.specs.declared.phase.Phase.{Phase}
 use Rattle.cx_unit.specs.declared.phase.Phase.TheVariants as phase
 use Rattle.cx_unit.specs.Names.{with_name}
@@ -155,6 +155,8 @@ no_word_at_end kind.Word rest e = cc
 no_word_at_end kind.Ident rest e = cc
 no_word_at_end (kind.Number n) rest e = cc
 no_word_at_end kind.Punct rest e = cc
+no_word_at_end (kind.Char n) rest e = cc
+no_word_at_end kind.Str rest e = cc
 
 one_more : (names : Declared) (a t : Token) (b : Bool) → is_end_kind a.kind ≡ b → Fits names (a ∷ [])
     → (begins_declaration names (a ∷ t ∷ []) || false) ≡ may_follow (if b then phase.Done else phase.Constexpr) names t

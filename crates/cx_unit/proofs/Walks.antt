@@ -3,7 +3,7 @@ use Rattle.std.proofs.Common.{◌≡◌, ℕ, ℤ, true, ◌≤◌, List, [], �
 use Rattle.std.specs.Prelude.{not, take_while}
 use Rattle.std.proofs.lemmas.List.{take_all}
 use Rattle.cx_base.specs.declared.diag.Span.{Span}
-use Rattle.cx_tokens.specs.declared.token.Token.{Token}
+use Rattle.cx_tokens.specs.declared.Token.{Token}
 use Rattle.cx_unit.specs.declared.verdict.Line.{Line}
 use Rattle.cx_unit.specs.declared.verdict.Verdict.{Verdict}
 use Rattle.cx_unit.specs.declared.verdict.Verdict.TheVariants.{Accepted}

@@ -1,6 +1,6 @@
 -- The units again, token by token: what was read last says what may stand next.
 use Rattle.std.specs.Prelude.{ℕ, Bool, false, true, ◌||◌, if◌then◌else◌, codes}
-use Rattle.cx_tokens.specs.declared.token.Token.{Token}
+use Rattle.cx_tokens.specs.declared.Token.{Token}
 use Rattle.cx_unit.specs.declared.phase.Phase.{Phase}
 use Rattle.cx_unit.specs.declared.phase.Phase.TheVariants.{Begin, Constexpr, Int, Name, Operator, Operand, Done}
 use Rattle.cx_unit.specs.Names.{with_name}

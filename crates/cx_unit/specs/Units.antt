@@ -1,13 +1,15 @@
 -- The units of the language: declarations `constexpr int NAME = CHAIN ;`, where a chain joins literals and names declared
 -- before by `+`, `-` and `*` ([dcl.constexpr], [expr.add], [expr.mul]). A unit is cut at its `;` into pieces.
-use Rattle.std.specs.Prelude.{ℕ, Bool, true, false, not, ◌==◌, ◌||◌, ◌&&◌, nat_le, List, [], ◌∷◌, ◌++◌, Option, Some, None, is_some, ◌≡◌, if◌then◌else◌, length, codes, slice_index}
+use Rattle.std.specs.Prelude.{ℕ, Bool, true, false, not, ◌||◌, ◌&&◌, List, [], ◌∷◌, ◌++◌, Option, Some, None, is_some, ◌≡◌, if◌then◌else◌, codes}
 use Rattle.std.specs.List.{slice_split}
 use Rattle.std.specs.Str.{bytes_eq}
 use Rattle.cx_base.specs.declared.diag.Mark.{Mark}
 use Rattle.cx_base.specs.declared.diag.Span.{Span}
-use Rattle.cx_tokens.specs.declared.token.Token.{Token}
-use Rattle.cx_tokens.specs.declared.token.TokenKind.{TokenKind}
-use Rattle.cx_tokens.specs.declared.token.TokenKind.TheVariants as kind
+use Rattle.cx_base.specs.declared.int_type.IntType.{IntType}
+use Rattle.cx_base.specs.declared.int_type.IntType.TheVariants as type
+use Rattle.cx_tokens.specs.declared.Token.{Token}
+use Rattle.cx_tokens.specs.declared.TokenKind.{TokenKind}
+use Rattle.cx_tokens.specs.declared.TokenKind.TheVariants as kind
 use Rattle.cx_unit.specs.Names.{value_among}
 
 -- ---- single tokens
@@ -49,17 +51,14 @@ is_sign t = is_punct t (codes "+") || is_minus t
 abbrev pub is_operator : Token → Bool
 is_operator t = is_star t || is_sign t
 
-abbrev pub most_int : ℕ
-most_int = 2147483647
+abbrev pub is_int_type : IntType → Bool
+is_int_type type.Int = true
+is_int_type _ = false
 
--- `0`, or digits without a leading zero, of a value up to the greatest int ([lex.icon])
-abbrev pub is_literal_of : TokenKind → List ℕ → Bool
-is_literal_of (kind.Number n) text = nat_le n most_int && (not (slice_index text 0 == 48) || length text == 1)
-is_literal_of _ text = false
-
--- a name is no longer than this ([implimits])
-abbrev pub longest_name : ℕ
-longest_name = 1024
+-- a literal of type int ([lex.icon])
+abbrev pub is_literal : TokenKind → Bool
+is_literal (kind.Number int) = is_int_type int.ty
+is_literal _ = false
 
 abbrev pub is_predeclared : List ℕ → Bool
 is_predeclared text = bytes_eq text (codes "size_t") || (bytes_eq text (codes "ptrdiff_t") || bytes_eq text (codes "nullptr_t"))
@@ -71,9 +70,9 @@ Declared = List (List ℕ × Mark)
 abbrev pub is_declared : Declared → List ℕ → Bool
 is_declared names text = is_some (value_among names text)
 
--- a name that is neither too long nor declared by the language itself
+-- a name that the language itself doesn't declare
 abbrev pub may_be_declared : Token → Bool
-may_be_declared t = is_ident_kind t.kind && (nat_le (length t.text) longest_name && not (is_predeclared t.text))
+may_be_declared t = is_ident_kind t.kind && not (is_predeclared t.text)
 
 -- a name that may be declared behind these ([basic.scope])
 abbrev pub is_new : Declared → Token → Bool
@@ -81,7 +80,7 @@ is_new names t = may_be_declared t && not (is_declared names t.text)
 
 -- a literal, or a name declared before ([basic.lookup])
 abbrev pub is_operand : Declared → Token → Bool
-is_operand names t = is_literal_of t.kind t.text || (is_ident_kind t.kind && is_declared names t.text)
+is_operand names t = is_literal t.kind || (is_ident_kind t.kind && is_declared names t.text)
 
 -- nothing, or a token that passes and what is behind it
 abbrev pub StartsWith : (Token → Bool) → List Token → Type 0

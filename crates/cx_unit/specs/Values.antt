@@ -1,5 +1,5 @@
 -- The values of chains, and the lines of a unit ([expr.add], [expr.mul], [expr.pre]).
-use Rattle.std.specs.Prelude.{ℕ, ℤ, pos, negsuc, Bool, not, ◌-◌, ◌&&◌, ◌+ℤ◌, ◌-ℤ◌, ◌*ℤ◌, int_le, min, List, [], ◌∷◌, ◌++◌, length, drop, filter, slice_get, Option, Some, None, unwrap_or, Result, Ok, Err, if◌then◌else◌}
+use Rattle.std.specs.Prelude.{ℕ, ℤ, pos, negsuc, Bool, not, ◌-◌, ◌&&◌, ◌+ℤ◌, ◌-ℤ◌, ◌*ℤ◌, int_le, List, [], ◌∷◌, ◌++◌, length, drop, filter, slice_get, Option, Some, None, unwrap_or, Result, Ok, Err, if◌then◌else◌}
 use Rattle.std.specs.List.{slice_split}
 use Rattle.std.specs.Option.{option_map_or}
 use Rattle.std.specs.Fmt.{signed_decimal}
@@ -7,16 +7,16 @@ use Rattle.cx_base.specs.declared.diag.Mark.{Mark}
 use Rattle.cx_base.specs.declared.diag.Span.{Span}
 use Rattle.cx_base.specs.declared.rule.Rule.{Rule}
 use Rattle.cx_base.specs.declared.rule.Rule.TheVariants as rule
-use Rattle.cx_tokens.specs.declared.token.Token.{Token}
-use Rattle.cx_tokens.specs.declared.token.TokenKind.{TokenKind}
-use Rattle.cx_tokens.specs.declared.token.TokenKind.TheVariants as kind
+use Rattle.cx_tokens.specs.declared.Token.{Token}
+use Rattle.cx_tokens.specs.declared.TokenKind.{TokenKind}
+use Rattle.cx_tokens.specs.declared.TokenKind.TheVariants as kind
 use Rattle.cx_unit.specs.declared.verdict.Verdict.{Verdict}
 use Rattle.cx_unit.specs.declared.verdict.Verdict.TheVariants.{Accepted, Refused}
 use Rattle.cx_unit.specs.declared.verdict.Line.{Line}
 use Rattle.cx_unit.specs.declared.verdict.LineKind.TheVariants as line_kind
 use Rattle.cx_unit.specs.declared.verdict.Value.TheVariants as value
 use Rattle.cx_unit.specs.Names.{value_among, with_name}
-use Rattle.cx_unit.specs.Units.{is_minus, is_sign, is_star, left_out, most_int, pieces_of}
+use Rattle.cx_unit.specs.Units.{is_minus, is_sign, is_star, left_out, pieces_of}
 
 -- the values of the names declared so far
 abbrev pub Values : Type 0
@@ -34,9 +34,9 @@ abbrev pub go_on : {A B : Type 0} → Result A Span → (A → Result B Span) �
 go_on (Ok a) next = next a
 go_on (Err span) next = Err span
 
--- the value of an operand; the literals of a unit are no greater than the greatest int
+-- the value of an operand; the literals of a unit are in the range of int
 abbrev pub value_of_kind : Values → TokenKind → List ℕ → ℤ
-value_of_kind values (kind.Number n) text = pos (min n most_int)
+value_of_kind values (kind.Number int) text = if fits_int int.value then int.value else pos 0
 value_of_kind values _ text = unwrap_or (value_among values text) (pos 0)
 
 abbrev pub value_of : Values → Token → ℤ

@@ -1,10 +1,13 @@
 -- The verdict of the bytes of a unit.
-use Rattle.std.specs.Prelude.{◌≡◌, ℕ, Bool, true, false, List, [], length, nat_lt}
+use Rattle.std.specs.Prelude.{◌≡◌, ◌⊎◌, ℕ, Bool, true, false, List, [], length, nat_lt}
+use Rattle.cx_base.specs.declared.diag.Diag.{Diag}
 use Rattle.cx_base.specs.declared.rule.Rule.TheVariants as rule
 use Rattle.cx_source.specs.Contents.{longest_source}
-use Rattle.cx_tokens.specs.declared.token.Token.{Token}
+use Rattle.cx_tokens.specs.declared.Token.{Token}
+use Rattle.cx_tokens.specs.declared.LexAnswer.{LexAnswer}
+use Rattle.cx_tokens.specs.declared.LexAnswer.TheVariants as lexed
 use Rattle.cx_tokens.specs.Marks.{mark_of}
-use Rattle.cx_tokens.specs.Tokens.{Lexes}
+use Rattle.cx_tokens.specs.Tokens.{LexFault, Lexes}
 use Rattle.cx_unit.specs.declared.verdict.Verdict.{Verdict}
 use Rattle.cx_unit.specs.declared.verdict.Verdict.TheVariants.{Refused}
 use Rattle.cx_unit.specs.Values.{verdict_on}
@@ -19,10 +22,21 @@ pub record IsVerdictOfTokens (bytes : List ℕ) (verdict : Verdict) : Type 0 whe
   pub lexed : Lexes bytes tokens
   pub judged : verdict ≡ verdict_on tokens
 
+-- the bytes have this fault first
+pub record IsVerdictOfFault (bytes : List ℕ) (verdict : Verdict) : Type 0 where
+  pub fault : Diag
+  pub found : LexFault bytes fault
+  pub judged : verdict ≡ Refused fault
+
 abbrev pub IsVerdictIf : Bool → List ℕ → Verdict → Type 0
 IsVerdictIf true bytes verdict = verdict ≡ source_too_long
-IsVerdictIf false bytes verdict = IsVerdictOfTokens bytes verdict
+IsVerdictIf false bytes verdict = IsVerdictOfFault bytes verdict ⊎ IsVerdictOfTokens bytes verdict
 
--- the bytes that were read have this verdict: there are too many, or it is that of their tokens
+-- the bytes that were read have this verdict: there are too many, or it is their first lexical fault, or that of their tokens
 abbrev pub IsVerdict : List ℕ → Verdict → Type 0
 IsVerdict bytes verdict = IsVerdictIf (nat_lt longest_source (length bytes)) bytes verdict
+
+-- the verdict is that of a lexical fault
+abbrev pub RefusedBy : LexAnswer → Verdict → Type 0
+RefusedBy (lexed.Fault fault) verdict = verdict ≡ Refused fault
+RefusedBy lexed.Memory verdict = ⊥

@@ -1,21 +1,31 @@
 //! The values of chains ([expr.add], [expr.mul]).
-ghost use Rattle.std.specs.Prelude.{◌≡◌, ◌*ℤ◌, if◌then◌else◌, FitsSigned, IfOk, not, length, drop, filter, take_while};
+ghost use Rattle.std.specs.Prelude.{◌≡◌, pos, ◌*ℤ◌, if◌then◌else◌, FitsSigned, IfOk, not, length, drop, filter, take_while};
 ghost use Rattle.std.specs.Int.{w32};
 ghost use Rattle.std.specs.List.{slice_split};
 ghost use Rattle.cx_unit.specs.Units.{StartsWith};
 ghost use Rattle.cx_unit.specs.Units as units;
 ghost use Rattle.cx_unit.specs.Values as spec;
 
-use crate::kinds::{MOST_INT, is_minus, is_sign, is_star};
+use crate::kinds::{is_minus, is_sign, is_star};
 use crate::names::Names;
 use cx_base::{Mark, Span};
 use cx_tokens::{Token, TokenKind};
+
+fn in_int(value: i128) -> i32
+    ensures { result ≡ (if spec.fits_int value then value else pos 0) }
+{
+    if -2_147_483_648 <= value && value <= 2_147_483_647 {
+        value as i32
+    } else {
+        0
+    }
+}
 
 fn value_of(values: &Names<i32>, token: &Token) -> i32
     ensures { result ≡ spec.value_of values.now token.now }
 {
     match token.kind {
-        TokenKind::Number(n) => n.min(MOST_INT) as i32,
+        TokenKind::Number(int) => in_int(int.value),
         _ => values.value(token.text.as_slice()).unwrap_or(0),
     }
 }

@@ -1,13 +1,9 @@
 //! What a single token is to a unit.
 ghost use Rattle.std.specs.Prelude.{◌≡◌};
 ghost use Rattle.cx_unit.specs.Units as spec;
-ghost use Rattle.cx_unit.specs.Units.{is_literal_of};
 
+use cx_base::IntType;
 use cx_tokens::{Token, TokenKind};
-
-pub const MOST_INT: u64 = 2_147_483_647;
-
-const LONGEST_NAME: usize = 1_024;
 
 pub fn is_word(token: &Token, text: &[u8]) -> bool
     ensures { result ≡ spec.is_word token.now text.now }
@@ -75,19 +71,12 @@ pub fn is_operator(token: &Token) -> bool
     is_star(token) || is_sign(token)
 }
 
-/// `0`, or digits without a leading zero, of a value up to the greatest int ([lex.icon]).
+/// A literal of type int ([lex.icon]).
 pub fn is_literal(token: &Token) -> bool
-    ensures { result ≡ is_literal_of token.now.kind token.now.text }
+    ensures { result ≡ spec.is_literal token.now.kind }
 {
     match token.kind {
-        TokenKind::Number(n) => {
-            let text = token.text.as_slice();
-            let has_leading_zero = match text.first() {
-                Some(b) => *b == b'0',
-                None => false,
-            };
-            n <= MOST_INT && (!has_leading_zero || text.len() == 1)
-        }
+        TokenKind::Number(int) => matches!(int.ty, IntType::Int),
         _ => false,
     }
 }
@@ -99,9 +88,9 @@ fn is_predeclared(text: &[u8]) -> bool
         || (text == b"ptrdiff_t".as_slice() || text == b"nullptr_t".as_slice())
 }
 
-/// A name that is neither too long nor declared by the language itself.
+/// A name that the language itself doesn't declare.
 pub fn may_be_declared(token: &Token) -> bool
     ensures { result ≡ spec.may_be_declared token.now }
 {
-    is_ident(token) && (token.text.len() <= LONGEST_NAME && !is_predeclared(token.text.as_slice()))
+    is_ident(token) && !is_predeclared(token.text.as_slice())
 }

@@ -12,5 +12,5 @@ mod verdict;
 mod walk;
 
 pub use reports::report;
-pub use units::{run_unit, too_long};
+pub use units::{run_unit, too_long, verdict_on};
 pub use verdict::{Line, LineKind, Mode, Value, Verdict};

@@ -1,19 +1,26 @@
-use Rattle.std.proofs.Common.{◌+◌}
-use Rattle.cx_tokens.proofs.Cutting.{lexed_all, lexed_more, none_is, span_is, text_is, whole_is}
+use Rattle.std.proofs.Common.{◌≡◌, ◌∷◌, ◌++◌, ◌∙◌, [], ap, sym, subst, arith}
+use Rattle.cx_tokens.specs.declared.TokenKind.TheVariants as kind
+use Rattle.cx_tokens.specs.Tokens.{Lexes}
+use Rattle.cx_tokens.specs.Cut.{end_token}
+use Rattle.cx_tokens.proofs.Reach.{explained, passes_on, reached_end, reached_on}
 use Rattle.cx_tokens.proofs.lexer.lex.Goals as goal
 
-pub runs-preserved : goal.runs-preserved
-runs-preserved c =
-    let text = c.split_at.result.0.now in
-    lexed_more c.args.bytes.now c.runs.rest.now c.in-Some.others.now text c.split_at.result.1.now c.in-Some.first.now
-    c.runs.tokens c.put_run.new.tokens c.runs.mark c.behind.result
-    c.runs.invariant
-    c.in-Some.ensures.cases.0
-    (text_is _ _ _ _ _ _ c.in-Some.ensures.cases.0 c.class_of-class.ensures c.front_len.ensures c.split_at.ensures.front)
-    (whole_is _ _ _ (1 + c.front_len.result) c.split_at.ensures.front c.split_at.ensures.back)
-    c.behind.ensures
-    (λ before start end. rw c.class_of-class.ensures at (c.in_ok-put_run.ensures before (span_is _ _ _ _ start end)))
+pub pieces-smaller : goal.pieces-smaller
+pieces-smaller c =
+    let on = passes_on c.args.bytes.now c.pieces.here c.in-Ok.next c.pieces.tokens c.step.new.tokens c.pieces-test.true c.in-Ok.ensures in
+    omega arith
 
-pub returns : goal.returns
-returns c = lexed_all c.args.bytes.now c.runs.rest.now c.runs.tokens c.push.new.self c.runs.mark c.runs.invariant
-    (none_is c.runs.rest.now c.in_default.ensures.cases) (rw c.new.ensures at c.in_ok-push.ensures.ok)
+pub pieces-preserved : goal.pieces-preserved
+pieces-preserved c =
+    reached_on c.args.bytes.now c.pieces.here c.in-Ok.next c.pieces.tokens c.step.new.tokens c.pieces-test.true c.pieces.invariant c.in-Ok.ensures
+
+pub returns-in-Err-clause-fault : goal.returns-in-Err-clause-fault
+returns-in-Err-clause-fault c =
+    explained c.args.bytes.now c.pieces.here c.pieces.tokens c.step.new.tokens c.in-Err.answer c.pieces-test.true c.pieces.invariant c.in-Err.ensures
+
+pub returns-in-Ok-push-clause-tokens : goal.returns-in-Ok-push-clause-tokens
+returns-in-Ok-push-clause-tokens c =
+    let made : c.push.new.self ≡ c.pieces.tokens ++ end_token c.pieces.here.mark ∷ [] =
+    c.in-Ok-push.ensures.ok ∙ ap (λ t. c.pieces.tokens ++ record { kind = kind.End; span = record { start = c.pieces.here.mark; end = c.pieces.here.mark }; text = t } ∷ []) c.new.ensures in
+    subst (λ tokens. Lexes c.args.bytes.now tokens) (sym made)
+    (reached_end c.args.bytes.now c.pieces.here c.pieces.tokens c.pieces-test.false c.pieces.invariant)

@@ -1,0 +1,8 @@
+use Rattle.cx_unit.proofs.Verdicts.{of_answer, of_tokens}
+use Rattle.cx_unit.proofs.units.verdict_on.Goals as goal
+
+pub returns-in-Ok : goal.returns-in-Ok
+returns-in-Ok c = of_tokens c.args.bytes.now c.in-Ok.tokens c.run_unit.result c.requires c.in-Ok.ensures.tokens c.run_unit.ensures
+
+pub returns-in-Err : goal.returns-in-Err
+returns-in-Err c = of_answer c.args.bytes.now c.in-Err.answer c.refused_by.result c.requires c.in-Err.ensures.fault c.refused_by.ensures
