@@ -8,3 +8,6 @@ pub mod Levels
 pub mod Asked
 pub mod Keeping
 pub mod Closing
+pub mod Fields
+pub mod Testing
+pub mod Examples

@@ -1,10 +1,11 @@
 -- The values of integer types and of enumerations ([basic.fundamental], [dcl.enum]).
-use Rattle.std.specs.Prelude.{◌≡◌, ℕ, zero, suc, ◌+◌, ◌-◌, ◌*◌, ◌^◌, Bool, true, false, ◌&&◌, Option, None, Some, ℤ, pos, negsuc, ◌≤ℤ◌, int_le, neg_ℤ, if◌then◌else◌}
+use Rattle.std.specs.Prelude.{◌≡◌, ℕ, zero, suc, ◌+◌, ◌-◌, ◌*◌, ◌^◌, Bool, true, false, ◌&&◌, Option, None, Some, ℤ, pos, negsuc, ◌≤ℤ◌, int_le, neg_ℤ, slice_get, option_and_then, option_map, if◌then◌else◌}
 use Rattle.cx_base.specs.declared.int_type.IntType.{IntType}
 use Rattle.cx_base.specs.declared.int_type.IntType.TheVariants as int
+use Rattle.cx_types.specs.declared.ids.EnumId.{EnumId}
 use Rattle.cx_types.specs.declared.decl.EnumDecl.{EnumDecl}
 use Rattle.cx_types.specs.declared.decl.EnumEnd.{EnumEnd}
-use Rattle.cx_types.specs.Tables.{int_size}
+use Rattle.cx_types.specs.Tables.{Tables, int_size}
 
 -- the values of so many bits, in two's complement where they are signed
 abbrev pub bit_values : Bool → ℕ → ℤ × ℤ
@@ -48,22 +49,30 @@ abbrev pub MayEnd : Option EnumDecl → IntType → ℤ → ℤ → Type 0
 MayEnd None under low high = ⊥
 MayEnd (Some d) under low high = (d.end ≡ None) × IsUnder d.fixed under × (low ≤ℤ high) × Holds (type_values under) low high
 
--- the least number from `from` on that passes, among so many
-abbrev pub first_from : (ℕ → Bool) → ℕ → ℕ → ℕ
+-- the least of so many numbers, `from` and those behind it, that passes; if none does, the number behind them
+unfoldable pub first_from : (ℕ → Bool) → ℕ → ℕ → ℕ
 first_from test zero from = from
 first_from test (suc n) from = if test from then from else first_from test n (from + 1)
 
 abbrev pub holds : ℤ × ℤ → ℤ → ℤ → Bool
 holds values low high = int_le values.0 low && int_le high values.1
 
--- the values of the smallest bit-field of at least one bit that holds both numbers; it is signed where the least is below 0
-abbrev pub field_values : ℤ → ℤ → ℤ × ℤ
-field_values low high =
-    let signed = int_le low (negsuc 0) in
-    bit_values signed (first_from (λ bits. holds (bit_values signed bits) low high) 64 1)
+-- the values of a bit-field of so many bits, which is signed where the least enumerator is below 0
+abbrev pub field_of_bits : ℤ → ℕ → ℤ × ℤ
+field_of_bits low bits = bit_values (int_le low (negsuc 0)) bits
 
--- the least and the greatest value of an enumeration whose type is known
-abbrev pub enum_values : Option IntType → Option EnumEnd → ℤ × ℤ
-enum_values (Some fixed) end = type_values fixed
-enum_values None (Some e) = field_values e.low e.high
-enum_values None None = (pos 0, pos 0)
+-- the bits, from 1 to 64, of the smallest bit-field that holds both numbers
+abbrev pub field_bits : ℤ → ℤ → ℕ
+field_bits low high = first_from (λ bits. holds (field_of_bits low bits) low high) 64 1
+
+abbrev pub field_values : ℤ → ℤ → ℤ × ℤ
+field_values low high = field_of_bits low (field_bits low high)
+
+-- the least and the greatest value of an enumeration, once its underlying type is known: those of the fixed type, or
+-- of the smallest bit-field that holds the enumerators
+abbrev pub enum_values : Option IntType → Option EnumEnd → Option (ℤ × ℤ)
+enum_values (Some fixed) end = Some (type_values fixed)
+enum_values None end = option_map (λ e. field_values e.low e.high) end
+
+abbrev pub values_at : Tables → EnumId → Option (ℤ × ℤ)
+values_at t id = option_and_then (λ (d : EnumDecl). enum_values d.fixed d.end) (slice_get t.enums id.0)

@@ -1,8 +1,9 @@
 //! Laws of the definitions, for what stands above: each is a function whose contract it is.
 
-ghost use Rattle.std.specs.Prelude.{◌≡◌, ℕ, Bool, Option, Some};
+ghost use Rattle.std.specs.Prelude.{◌≡◌, ℕ, ◌<◌, ◌≤◌, Bool, true, false, Option, Some, ℤ};
 ghost use Rattle.cx_types.specs.Tables.{Tables, Grows};
 ghost use Rattle.cx_types.specs.Questions.{Part, asked, depth_of, cells_of, nodes_of, literal_of, extent_of, part_answer};
+ghost use Rattle.cx_types.specs.Enums.{holds, field_of_bits, field_bits, field_values};
 
 use crate::decl::Extent;
 
@@ -27,4 +28,11 @@ pub fn questions_open()
     ensures cells { (t : Tables) (p : Part) (d : ℕ) → asked depth_of t p ≡ Some d → asked cells_of t p ≡ part_answer cells_of t (asked cells_of t) p }
     ensures literal { (t : Tables) (p : Part) (d : ℕ) → asked depth_of t p ≡ Some d → asked literal_of t p ≡ part_answer literal_of t (asked literal_of t) p }
     ensures extent { (t : Tables) (p : Part) (d : ℕ) → asked depth_of t p ≡ Some d → asked extent_of t p ≡ part_answer extent_of t (asked extent_of t) p }
+{}
+
+/// The bit-field whose values an enumeration has holds both numbers, where one of at most 64 bits does, and none of
+/// fewer bits does.
+pub fn field_is_smallest()
+    ensures fits { (low high : ℤ) (bits : ℕ) → 1 ≤ bits → bits ≤ 64 → holds (field_of_bits low bits) low high ≡ true → holds (field_values low high) low high ≡ true }
+    ensures least { (low high : ℤ) (bits : ℕ) → 1 ≤ bits → bits < field_bits low high → holds (field_of_bits low bits) low high ≡ false }
 {}

@@ -11,6 +11,9 @@ mod measured;
 mod row_set;
 mod sums;
 mod tables;
+#[cfg(test)]
+mod tests;
+mod values;
 mod vectors;
 
 pub use answer::TypeAnswer;
@@ -18,5 +21,5 @@ pub use cx_base::IntType;
 pub use decl::{ClassBody, ClassDecl, ClassFlags, ClassKey, EnumDecl, EnumEnd, Extent, Field};
 pub use ids::{ClassId, EnumId, FuncId, Step, TypeId, VarId};
 pub use kind::{TypeKind, TypeRow};
-pub use laws::{answers_stay, growth_is_an_order, questions_open};
+pub use laws::{answers_stay, field_is_smallest, growth_is_an_order, questions_open};
 pub use tables::Types;

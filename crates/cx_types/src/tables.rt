@@ -1,7 +1,7 @@
 ghost use Rattle.std.specs.Prelude.{◌≡◌, ◌==◌, ℕ, ◌+◌, ◌-◌, ◌^◌, ◌<◌, ◌≤◌, ◌↔◌, [], ◌∷◌, ◌++◌, length, slice_get, Option, Some, None, is_some, option_map, IsSome, IfSome, IsTrue, IfOk, OnOk, OnErr};
 ghost use Rattle.cx_types.specs.Tables.{Tables, no_types, with_class, with_enum, with_end, with_body, body_at, base_of, field_of, overrider, under_at, declared_pure, body_declares};
 ghost use Rattle.std.specs.List.{list_any};
-ghost use Rattle.cx_types.specs.Enums.{MayEnd};
+ghost use Rattle.cx_types.specs.Enums.{MayEnd, values_at};
 ghost use Rattle.cx_types.specs.Kept.{KeptClass};
 
 use crate::decl::{ClassBody, ClassDecl, ClassFlags, ClassKey, EnumDecl, EnumEnd, Field};
@@ -9,6 +9,7 @@ use crate::facts::{Measure, RowFacts};
 use crate::ids::{ClassId, EnumId, FuncId, TypeId};
 use crate::kind::TypeRow;
 use crate::row_set::RowSet;
+use crate::values::enum_values;
 use crate::vectors::{end_at, push};
 use cx_base::{IntType, Memory, Span, Text};
 use std::alloc::Global;
@@ -17,6 +18,8 @@ use std::marker::Model;
 mod asks;
 mod close;
 mod intern;
+#[cfg(test)]
+mod known;
 
 /// A program's types, classes and enumerations, that contracts see as lists in order of declaration.
 #[derive(Debug, Drop)]
@@ -128,6 +131,17 @@ impl Types {
             Some(fixed) => Some(fixed),
             None => decl.end.map(|end| end.under),
         }
+    }
+
+    /// The least and the greatest of the enumeration's values ([dcl.enum]): those of its fixed type, or else of the
+    /// smallest bit-field of at least one bit that holds all its enumerators. It asks that `under` isn't None,
+    /// and tries 64 widths at most.
+    pub fn enum_range(&self, id: EnumId) -> (i128, i128)
+        requires { IsSome (under_at self.now id) }
+        ensures { values_at self.now id ≡ Some result }
+    {
+        let decl = self.enumeration(id);
+        enum_values(decl.fixed, decl.end)
     }
 
     fn body(&self, class: ClassId) -> &ClassBody
@@ -276,7 +290,8 @@ impl Types {
         end_at(&mut self.enums, id.0 as usize, EnumEnd { under, low, high });
     }
 
-    /// Whether a complete class declares the function pure ([class.abstract]).
+    /// Whether a complete class declares the function pure ([class.abstract]). It searches the pure functions of every
+    /// class; each other question is answered in constant time.
     pub fn is_pure(&self, func: FuncId) -> bool
         ensures { result ≡ declared_pure self.now func }
     {

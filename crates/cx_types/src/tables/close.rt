@@ -127,6 +127,7 @@ impl Types {
 
     /// The class is complete. It asks that it wasn't complete before, that what the body names is known, and that it
     /// has at least as many slots as its bases have together. After a refusal the class stays incomplete.
+    /// A call takes time linear in the number of bases and members.
     pub fn class_end(&mut self, class: ClassId, body: ClassBody) -> Result<(), TypeAnswer>
         requires incomplete { IsIncomplete (slice_get self.old.classes class.0) }
         requires known { IsKnownBody self.old body }

@@ -142,7 +142,7 @@ impl Types {
 
     /// The number of this type; equal types have equal numbers. It asks that what the type names is known, that an
     /// array has an element, and that fewer than 2^32 - 1 types were interned before. After a refusal the tables are
-    /// as before.
+    /// as before. A call takes one look-up by hash.
     pub fn intern(&mut self, row: TypeRow) -> Result<TypeId, TypeAnswer>
         requires known { IsKnown self.old row.kind }
         requires room { length self.old.rows < 2 ^ 32 - 1 }
