@@ -79,13 +79,13 @@ module _ {T A B : Type 0} (f : A → B) (G : Family T A) (go_g : A → T → Boo
   goes_on v [] h = h
   goes_on v (t ∷ y) h = after v t h
 
-  pub core_as : (least : ℕ) (R : ℕ → Type 0) (S : A → Type 0) (S2 : B → Type 0) (ts used rest : List T) → ((v : A) → S v → S2 (f v)) → Core G go_g least R S ts used rest → Core (λ n. f <$> G n) go least R S2 ts used rest
-  core_as least R S S2 ts used rest k c = record {
+  pub core_as : (least : ℕ) (R : ℕ → Type 0) (S : A → Type 0) (S' : B → Type 0) (ts used rest : List T) → ((v : A) → S v → S' (f v)) → Core G go_g least R S ts used rest → Core (λ n. f <$> G n) go least R S' ts used rest
+  core_as least R S S' ts used rest k c = record {
     cut = c.cut;
     begins = c.begins;
     ends = c.ends;
     only = λ n q x y w e s. elim (c.only n q x y s.value e s.part) [
-      | same a b d ↦ same a b (subst S2 (sym s.made) (k s.value d))
+      | same a b d ↦ same a b (subst S' (sym s.made) (k s.value d))
       | shorter a b ↦ shorter a (let P : B → Type 0 = λ u. GoesOn go u y in subst P (sym s.made) (goes_on s.value y b))
     ];
   }
@@ -294,18 +294,18 @@ module _ {T A : Type 0} (L : Family T A) (go : A → T → Bool) where
   deeper_begins least S R ts used rest c zero p x y e = absurd (omega arith)
   deeper_begins least S R ts used rest c (suc n) p x y e = let q : least ≤ n = omega arith in c.begins n q x y e
 
-  deeper_only : (least : ℕ) (S : A → Type 0) (R R2 : ℕ → Type 0) (ts used rest : List T) → ((n : ℕ) → R2 (suc n) → R n) → Core L go least R S ts used rest
-      → (n : ℕ) → R2 n → (x y : List T) (w : A) → ts ≡ x ++ y → (below L n).spells x w → Only go S used rest x y w
-  deeper_only least S R R2 ts used rest k c zero q x y w e s = absurd s
-  deeper_only least S R R2 ts used rest k c (suc n) q x y w e s = c.only n (k n q) x y w e s
+  deeper_only : (least : ℕ) (S : A → Type 0) (R R' : ℕ → Type 0) (ts used rest : List T) → ((n : ℕ) → R' (suc n) → R n) → Core L go least R S ts used rest
+      → (n : ℕ) → R' n → (x y : List T) (w : A) → ts ≡ x ++ y → (below L n).spells x w → Only go S used rest x y w
+  deeper_only least S R R' ts used rest k c zero q x y w e s = absurd s
+  deeper_only least S R R' ts used rest k c (suc n) q x y w e s = c.only n (k n q) x y w e s
 
-  deeper_ends : (least : ℕ) (S : A → Type 0) (R R2 : ℕ → Type 0) (ts used rest : List T) → ((n : ℕ) → R2 (suc n) → R n) → Core L go least R S ts used rest
-      → (n : ℕ) → R2 n → (x y : List T) → ts ≡ x ++ y → (below L n).begins x → Within used x
-  deeper_ends least S R R2 ts used rest k c zero q x y e b = (used, sym (ap (λ l. l ++ used) b))
-  deeper_ends least S R R2 ts used rest k c (suc n) q x y e b = c.ends n (k n q) x y e b
+  deeper_ends : (least : ℕ) (S : A → Type 0) (R R' : ℕ → Type 0) (ts used rest : List T) → ((n : ℕ) → R' (suc n) → R n) → Core L go least R S ts used rest
+      → (n : ℕ) → R' n → (x y : List T) → ts ≡ x ++ y → (below L n).begins x → Within used x
+  deeper_ends least S R R' ts used rest k c zero q x y e b = (used, sym (ap (λ l. l ++ used) b))
+  deeper_ends least S R R' ts used rest k c (suc n) q x y e b = c.ends n (k n q) x y e b
 
-  core_deeper : (least : ℕ) (S : A → Type 0) (R R2 : ℕ → Type 0) (ts used rest : List T) → ((n : ℕ) → R2 (suc n) → R n) → Core L go least R S ts used rest → Core (below L) go (suc least) R2 S ts used rest
-  core_deeper least S R R2 ts used rest k c = record { cut = c.cut; begins = deeper_begins least S R ts used rest c; only = deeper_only least S R R2 ts used rest k c; ends = deeper_ends least S R R2 ts used rest k c }
+  core_deeper : (least : ℕ) (S : A → Type 0) (R R' : ℕ → Type 0) (ts used rest : List T) → ((n : ℕ) → R' (suc n) → R n) → Core L go least R S ts used rest → Core (below L) go (suc least) R' S ts used rest
+  core_deeper least S R R' ts used rest k c = record { cut = c.cut; begins = deeper_begins least S R ts used rest c; only = deeper_only least S R R' ts used rest k c; ends = deeper_ends least S R R' ts used rest k c }
 
   reaches_down : (rule : Rule) (least n : ℕ) → Reaches rule (suc least) (suc n) → Reaches rule least n
   reaches_down rule least n r = λ e. let same_level = r e in omega arith

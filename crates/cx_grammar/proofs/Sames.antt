@@ -36,7 +36,7 @@ same_as f e = record {
   begun = e.begun;
 }
 
-pub same_both : {T A B : Type 0} {G G2 : Family T A} {H H2 : Family T B} → Same G G2 → Same H H2 → Same (λ n. G n >> H n) (λ n. G2 n >> H2 n)
+pub same_both : {T A B : Type 0} {G G' : Family T A} {H H' : Family T B} → Same G G' → Same H H' → Same (λ n. G n >> H n) (λ n. G' n >> H' n)
 same_both e f = record {
   spells = λ n x w s. record { front = s.front; back = s.back; cut = s.cut; first = e.spells n s.front w.0 s.first; second = f.spells n s.back w.1 s.second };
   spelled = λ n x w s. record { front = s.front; back = s.back; cut = s.cut; first = e.spelled n s.front w.0 s.first; second = f.spelled n s.back w.1 s.second };
@@ -54,7 +54,7 @@ module _ {T A : Type 0} {G H : Family T A} (e : Same G H) (st : (n : ℕ) → (G
     begun = λ n x b. elim b [ none_yet none ↦ none_yet none | some s c ↦ some (st n ∙ s) (e.begun n x c) ];
   }
 
-pub same_either : {T A : Type 0} {G G2 H H2 : Family T A} → Same (λ n. present (G n)) (λ n. present (G2 n)) → Same (λ n. present (H n)) (λ n. present (H2 n)) → Same (λ n. G n ∥ H n) (λ n. G2 n ∥ H2 n)
+pub same_either : {T A : Type 0} {G G' H H' : Family T A} → Same (λ n. present (G n)) (λ n. present (G' n)) → Same (λ n. present (H n)) (λ n. present (H' n)) → Same (λ n. G n ∥ H n) (λ n. G' n ∥ H' n)
 same_either e f = record {
   spells = λ n x w s. elim s [ inl a ↦ inl (e.spells n x w a) | inr b ↦ inr (f.spells n x w b) ];
   spelled = λ n x w s. elim s [ inl a ↦ inl (e.spelled n x w a) | inr b ↦ inr (f.spelled n x w b) ];
