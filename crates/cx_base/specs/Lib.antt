@@ -1,3 +1,4 @@
 pub mod Limits
 pub mod Only
 pub mod Rules
+pub mod formers
