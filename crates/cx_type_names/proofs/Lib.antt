@@ -1,0 +1,7 @@
+mod Closing
+mod Examples
+mod Listed
+mod Passing
+mod Rests
+mod Sets
+mod Spelling

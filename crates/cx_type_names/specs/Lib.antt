@@ -1,0 +1,5 @@
+pub mod Groups
+pub mod Names
+pub mod Roles
+pub mod Soup
+pub mod Walk
