@@ -2,26 +2,26 @@
 use Rattle.std.proofs.Common.{◌≡◌, ℕ, zero, suc, ◌≤◌, Bool, true, false, ◌||◌, List, [], ◌∷◌, ◌++◌, length, map, set, sum, Option, None, Some, Err, ◌⊎◌, inl, inr, refl, sym, ap, subst, ◌∙◌, slice_get, arith, if◌then◌else◌}
 use Rattle.std.specs.Prelude.{option_and_then, is_none, is_some, not}
 use Rattle.std.specs.List.{list_any}
-use Rattle.cx_types.specs.declared.answer.TypeAnswer.{TypeAnswer}
-use Rattle.cx_types.specs.declared.answer.TypeAnswer.TheVariants as answer
-use Rattle.cx_types.specs.declared.ids.TypeId.{TypeId}
-use Rattle.cx_types.specs.declared.ids.ClassId.{ClassId}
-use Rattle.cx_types.specs.declared.kind.TypeRow.{TypeRow}
-use Rattle.cx_types.specs.declared.decl.ClassDecl.{ClassDecl}
-use Rattle.cx_types.specs.declared.decl.ClassBody.{ClassBody}
-use Rattle.cx_types.specs.declared.decl.ClassKey.{ClassKey}
-use Rattle.cx_types.specs.declared.decl.Field.{Field}
-use Rattle.cx_types.specs.declared.decl.Extent.{Extent}
+use Rattle.cx_type_defs.specs.declared.answer.TypeAnswer.{TypeAnswer}
+use Rattle.cx_type_defs.specs.declared.answer.TypeAnswer.TheVariants as answer
+use Rattle.cx_type_defs.specs.declared.ids.TypeId.{TypeId}
+use Rattle.cx_type_defs.specs.declared.ids.ClassId.{ClassId}
+use Rattle.cx_type_defs.specs.declared.kind.TypeRow.{TypeRow}
+use Rattle.cx_type_defs.specs.declared.decl.ClassDecl.{ClassDecl}
+use Rattle.cx_type_defs.specs.declared.decl.ClassBody.{ClassBody}
+use Rattle.cx_type_defs.specs.declared.decl.ClassKey.{ClassKey}
+use Rattle.cx_type_defs.specs.declared.decl.Field.{Field}
+use Rattle.cx_type_defs.specs.declared.decl.Extent.{Extent}
 use Rattle.cx_types.specs.declared.facts.RowFacts.{RowFacts}
 use Rattle.cx_types.specs.declared.facts.Measure.{Measure}
-use Rattle.cx_types.specs.Tables.{Tables, Stays, Grows, ClassGrows, EnumGrows, body_at, with_body, changed_at}
-use Rattle.cx_types.specs.Questions.{Question, Part, OfType, OfClass, each, joined, body_answer, class_answer, asked, depth_of, cells_of, nodes_of, literal_of, extent_of, is_complete}
-use Rattle.cx_types.specs.Refusals.{is_large, lacks_part, large_body, body_refusal, Refuses}
+use Rattle.cx_type_defs.specs.Tables.{Tables, Stays, Grows, ClassGrows, EnumGrows, body_at, with_body, changed_at}
+use Rattle.cx_type_defs.specs.Questions.{Question, Part, OfType, OfClass, each, joined, body_answer, class_answer, asked, depth_of, cells_of, nodes_of, literal_of, extent_of, is_complete}
+use Rattle.cx_type_defs.specs.Refusals.{is_large, lacks_part, large_body, body_refusal, Refuses}
 use Rattle.cx_types.specs.Kept.{KeptRow, KeptClass, KeptBody, ClassTold, Kept}
 use Rattle.cx_types.specs.Parts.{AreGood, PartTold, PartsTold, part_of_field, Measured, too_large, BodyTold, IsOpenClass, GatheredVec}
-use Rattle.cx_types.proofs.Lists.{some_inj, Along-at, Along-same, slice_get-set}
-use Rattle.cx_types.proofs.Looking.{Grows-same, Grows-then, ClassGrows-same, EnumGrows-same}
-use Rattle.cx_types.proofs.Asked.{asked-body, asked-incomplete}
+use Rattle.cx_type_defs.proofs.Lists.{slice_get-changed_same, some_inj, Along-at, Along-same, slice_get-set}
+use Rattle.cx_type_defs.proofs.Looking.{Grows-same, Grows-then, ClassGrows-same, EnumGrows-same}
+use Rattle.cx_type_defs.proofs.Asked.{asked-body, asked-incomplete}
 use Rattle.cx_types.proofs.Keeping.{changed-length, Along-changed, IsKnown-grows, KeptRow-grows, KeptClass-grows}
 use Rattle.cx_types.proofs.Totals.{sum-cons}
 
@@ -136,7 +136,7 @@ refusal-fields t k b h = ap (λ x. if x then Some answer.Incomplete else if larg
 
 -- the tables with the class complete
 
-slice_get-changed : {A : Type 0} (f : A → A) (xs : List A) (k i : ℕ) (y : A) → slice_get (changed_at f xs k) i ≡ Some y → ((i ≡ k) × (x : A) × (slice_get xs i ≡ Some x) × (y ≡ f x)) ⊎ ((i ≡ k → ⊥) × (slice_get xs i ≡ Some y))
+pub slice_get-changed : {A : Type 0} (f : A → A) (xs : List A) (k i : ℕ) (y : A) → slice_get (changed_at f xs k) i ≡ Some y → ((i ≡ k) × (x : A) × (slice_get xs i ≡ Some x) × (y ≡ f x)) ⊎ ((i ≡ k → ⊥) × (slice_get xs i ≡ Some y))
 slice_get-changed f [] k i y e = absurd (cc)
 slice_get-changed f (x ∷ xs) zero zero y e = inl (refl, x, refl, sym (some_inj (f x) y e))
 slice_get-changed f (x ∷ xs) zero (suc i) y e = inr ((λ z. omega arith), e)
@@ -144,11 +144,6 @@ slice_get-changed f (x ∷ xs) (suc k) zero y e = inr ((λ z. omega arith), e)
 slice_get-changed f (x ∷ xs) (suc k) (suc i) y e =
     elim (slice_get-changed f xs k i y e) as (λ _. ((suc i ≡ suc k) × (w : _) × (slice_get xs i ≡ Some w) × (y ≡ f w)) ⊎ ((suc i ≡ suc k → ⊥) × (slice_get xs i ≡ Some y)))
     [ inl h ↦ inl (ap suc h.0, h.1, h.2, h.3) | inr h ↦ inr ((λ z. let w : i ≡ k = omega arith in h.0 w), h.1) ]
-
-slice_get-changed_same : {A : Type 0} (f : A → A) (xs : List A) (k : ℕ) (x : A) → slice_get xs k ≡ Some x → slice_get (changed_at f xs k) k ≡ Some (f x)
-slice_get-changed_same f [] k x e = absurd (cc)
-slice_get-changed_same f (y ∷ ys) zero x e = ap (λ z. Some (f z)) (some_inj y x e)
-slice_get-changed_same f (y ∷ ys) (suc k) x e = slice_get-changed_same f ys k x e
 
 ClassGrows-body : (d : ClassDecl) (b : ClassBody) → d.body ≡ None → ClassGrows d (record d { body = Some b })
 ClassGrows-body d b none = record { same_name = refl; same_key = refl; body_stays = subst (λ o. Stays o (Some b)) (sym none) tt }

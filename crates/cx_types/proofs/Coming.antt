@@ -5,19 +5,19 @@ use Rattle.std.proofs.lemmas.Option.{slice_get_within}
 use Rattle.std.proofs.Math.Nat.{mul-le-mul_left}
 use Rattle.cx_base.specs.declared.int_type.IntType.{IntType}
 use Rattle.cx_base.specs.declared.int_type.IntType.TheVariants as int
-use Rattle.cx_types.specs.declared.ids.TypeId.{TypeId}
-use Rattle.cx_types.specs.declared.kind.TypeRow.{TypeRow}
-use Rattle.cx_types.specs.declared.kind.TypeKind.{TypeKind}
-use Rattle.cx_types.specs.declared.kind.TypeKind.TheVariants as kind
-use Rattle.cx_types.specs.declared.decl.Extent.{Extent}
+use Rattle.cx_type_defs.specs.declared.ids.TypeId.{TypeId}
+use Rattle.cx_type_defs.specs.declared.kind.TypeRow.{TypeRow}
+use Rattle.cx_type_defs.specs.declared.kind.TypeKind.{TypeKind}
+use Rattle.cx_type_defs.specs.declared.kind.TypeKind.TheVariants as kind
+use Rattle.cx_type_defs.specs.declared.decl.Extent.{Extent}
 use Rattle.cx_types.specs.declared.facts.RowFacts.{RowFacts}
 use Rattle.cx_types.specs.declared.facts.Measure.{Measure}
-use Rattle.cx_types.specs.Tables.{Tables, Grows, ClassGrows, EnumGrows, IsKnown, with_row, int_size, under_at}
-use Rattle.cx_types.specs.Questions.{Part, OfType, address_answer, kind_answer, asked, depth_of, cells_of, nodes_of, literal_of, extent_of, bytes}
+use Rattle.cx_type_defs.specs.Tables.{Tables, Grows, ClassGrows, EnumGrows, IsKnown, with_row, int_size, under_at}
+use Rattle.cx_type_defs.specs.Questions.{Part, OfType, address_answer, kind_answer, asked, depth_of, cells_of, nodes_of, literal_of, extent_of, bytes}
 use Rattle.cx_types.specs.Kept.{Fitting, RowTold, KeptRow, Kept, IsLeaf, IsNoClass, FoundLeaf, FoundRow, MayCome}
-use Rattle.cx_types.proofs.Lists.{some_inj, option_map-some, option_and_then-some, Along-same, Along-more, slice_get-last, slice_get-push}
-use Rattle.cx_types.proofs.Looking.{row-grows, Grows-same, Grows-then, ClassGrows-same, EnumGrows-same}
-use Rattle.cx_types.proofs.Asked.{asked-opens, asked-row}
+use Rattle.cx_type_defs.proofs.Lists.{some_inj, option_map-some, option_and_then-some, Along-same, Along-more, slice_get-last, slice_get-push}
+use Rattle.cx_type_defs.proofs.Looking.{row-grows, Grows-same, Grows-then, ClassGrows-same, EnumGrows-same}
+use Rattle.cx_type_defs.proofs.Asked.{asked-opens, asked-row}
 use Rattle.cx_types.proofs.Keeping.{IsKnown-grows, KeptRow-grows, KeptClass-grows}
 use Rattle.cx_types.proofs.Rows.{spread-one, pointer-always}
 

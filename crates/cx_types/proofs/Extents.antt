@@ -3,20 +3,20 @@ use Rattle.std.proofs.Common.{◌≡◌, ℕ, ◌*◌, ◌^◌, ◌<◌, true, l
 use Rattle.std.specs.Prelude.{option_map, unwrap_or, is_some}
 use Rattle.std.proofs.lemmas.Option.{slice_get_within}
 use Rattle.cx_base.specs.declared.rule.Rule.TheVariants as rule
-use Rattle.cx_types.specs.declared.ids.TypeId.{TypeId}
-use Rattle.cx_types.specs.declared.ids.ClassId.{ClassId}
-use Rattle.cx_types.specs.declared.kind.TypeRow.{TypeRow}
-use Rattle.cx_types.specs.declared.kind.TypeKind.{TypeKind}
-use Rattle.cx_types.specs.declared.kind.TypeKind.TheVariants as kind
-use Rattle.cx_types.specs.declared.decl.ClassBody.{ClassBody}
-use Rattle.cx_types.specs.declared.decl.Extent.{Extent}
+use Rattle.cx_type_defs.specs.declared.ids.TypeId.{TypeId}
+use Rattle.cx_type_defs.specs.declared.ids.ClassId.{ClassId}
+use Rattle.cx_type_defs.specs.declared.kind.TypeRow.{TypeRow}
+use Rattle.cx_type_defs.specs.declared.kind.TypeKind.{TypeKind}
+use Rattle.cx_type_defs.specs.declared.kind.TypeKind.TheVariants as kind
+use Rattle.cx_type_defs.specs.declared.decl.ClassBody.{ClassBody}
+use Rattle.cx_type_defs.specs.declared.decl.Extent.{Extent}
 use Rattle.cx_types.specs.declared.facts.RowFacts.{RowFacts}
 use Rattle.cx_types.specs.declared.facts.Measure.{Measure}
-use Rattle.cx_types.specs.Tables.{Tables, IsKnown, body_at}
-use Rattle.cx_types.specs.Questions.{OfType, OfClass, kind_answer, asked, cells_of, extent_of, bytes, is_complete, cells_answer}
+use Rattle.cx_type_defs.specs.Tables.{Tables, IsKnown, body_at}
+use Rattle.cx_type_defs.specs.Questions.{OfType, OfClass, kind_answer, asked, cells_of, extent_of, bytes, is_complete, cells_answer}
 use Rattle.cx_types.specs.Kept.{KeptRow, KeptClass, IsOpen, IsLeafAt}
-use Rattle.cx_types.proofs.Looking.{Grows-same}
-use Rattle.cx_types.proofs.Asked.{asked-kind, asked-incomplete, under}
+use Rattle.cx_type_defs.proofs.Looking.{Grows-same}
+use Rattle.cx_type_defs.proofs.Asked.{asked-kind, asked-incomplete, under}
 use Rattle.cx_types.proofs.Keeping.{some_at}
 use Rattle.cx_types.proofs.Rows.{pointer-always, open-asked}
 

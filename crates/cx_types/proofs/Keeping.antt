@@ -2,24 +2,24 @@
 use Rattle.std.proofs.Common.{◌≡◌, ℕ, zero, suc, ◌+◌, ◌<◌, ◌≤◌, List, [], ◌∷◌, ◌++◌, length, Option, None, Some, ◌⊎◌, inl, inr, refl, sym, ap, subst, ◌∙◌, slice_get, arith, length-append}
 use Rattle.std.specs.Prelude.{option_and_then, ℤ}
 use Rattle.std.proofs.lemmas.Option.{slice_get_within, slice_get_cases}
-use Rattle.cx_types.specs.declared.ids.TypeId.{TypeId}
-use Rattle.cx_types.specs.declared.ids.ClassId.{ClassId}
-use Rattle.cx_types.specs.declared.ids.EnumId.{EnumId}
-use Rattle.cx_types.specs.declared.kind.TypeRow.{TypeRow}
-use Rattle.cx_types.specs.declared.kind.TypeKind.{TypeKind}
-use Rattle.cx_types.specs.declared.kind.TypeKind.TheVariants as kind
-use Rattle.cx_types.specs.declared.decl.ClassDecl.{ClassDecl}
-use Rattle.cx_types.specs.declared.decl.ClassBody.{ClassBody}
-use Rattle.cx_types.specs.declared.decl.EnumDecl.{EnumDecl}
-use Rattle.cx_types.specs.declared.decl.EnumEnd.{EnumEnd}
+use Rattle.cx_type_defs.specs.declared.ids.TypeId.{TypeId}
+use Rattle.cx_type_defs.specs.declared.ids.ClassId.{ClassId}
+use Rattle.cx_type_defs.specs.declared.ids.EnumId.{EnumId}
+use Rattle.cx_type_defs.specs.declared.kind.TypeRow.{TypeRow}
+use Rattle.cx_type_defs.specs.declared.kind.TypeKind.{TypeKind}
+use Rattle.cx_type_defs.specs.declared.kind.TypeKind.TheVariants as kind
+use Rattle.cx_type_defs.specs.declared.decl.ClassDecl.{ClassDecl}
+use Rattle.cx_type_defs.specs.declared.decl.ClassBody.{ClassBody}
+use Rattle.cx_type_defs.specs.declared.decl.EnumDecl.{EnumDecl}
+use Rattle.cx_type_defs.specs.declared.decl.EnumEnd.{EnumEnd}
 use Rattle.cx_types.specs.declared.facts.RowFacts.{RowFacts}
 use Rattle.cx_types.specs.declared.facts.Measure.{Measure}
-use Rattle.cx_types.specs.Tables.{Tables, Along, ClassGrows, EnumGrows, Grows, Stays, IsKnown, with_class, with_enum, with_end, body_at, changed_at}
+use Rattle.cx_type_defs.specs.Tables.{Tables, Along, ClassGrows, EnumGrows, Grows, Stays, IsKnown, with_class, with_enum, with_end, body_at, changed_at}
 use Rattle.cx_base.specs.declared.int_type.IntType.{IntType}
-use Rattle.cx_types.specs.Enums.{MayEnd}
+use Rattle.cx_type_defs.specs.Enums.{MayEnd}
 use Rattle.cx_types.specs.Kept.{Kept, KeptRow, KeptClass}
-use Rattle.cx_types.proofs.Lists.{some_inj, Along-same, Along-more, slice_get-push}
-use Rattle.cx_types.proofs.Looking.{Grows-then, ClassGrows-same, EnumGrows-same}
+use Rattle.cx_type_defs.proofs.Lists.{some_inj, Along-same, Along-more, slice_get-push}
+use Rattle.cx_type_defs.proofs.Looking.{Grows-then, ClassGrows-same, EnumGrows-same}
 
 pub some_at : {A : Type 0} (xs : List A) (i : ℕ) → i < length xs → (x : A) × (slice_get xs i ≡ Some x)
 some_at xs i h = elim (slice_get_cases xs i).1 as (λ _. (x : _) × (slice_get xs i ≡ Some x)) [ inl w ↦ (w.0, w.2) | inr w ↦ (let n = w.0 in absurd (omega arith)) ]

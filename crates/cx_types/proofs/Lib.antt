@@ -1,13 +1,10 @@
-pub mod Lists
 pub mod Rows
 pub mod Coming
 pub mod Totals
 pub mod Extents
-pub mod Looking
-pub mod Levels
-pub mod Asked
 pub mod Keeping
 pub mod Closing
-pub mod Fields
+pub mod Slots
+pub mod Whole
+pub mod Funcs
 pub mod Testing
-pub mod Examples

@@ -3,24 +3,24 @@ use Rattle.std.proofs.Common.{◌≡◌, ℕ, ◌+◌, ◌*◌, ◌<◌, ◌≤�
 use Rattle.std.specs.Prelude.{option_map, option_and_then, unwrap_or, is_none}
 use Rattle.std.proofs.lemmas.Bool.{lt-ltb, le-ltb}
 use Rattle.std.proofs.Math.Nat.{mul-le-mul_left}
-use Rattle.cx_types.specs.declared.answer.TypeAnswer.{TypeAnswer}
-use Rattle.cx_types.specs.declared.answer.TypeAnswer.TheVariants as answer
-use Rattle.cx_types.specs.declared.ids.TypeId.{TypeId}
-use Rattle.cx_types.specs.declared.ids.ClassId.{ClassId}
-use Rattle.cx_types.specs.declared.kind.TypeRow.{TypeRow}
-use Rattle.cx_types.specs.declared.kind.TypeKind.{TypeKind}
-use Rattle.cx_types.specs.declared.kind.TypeKind.TheVariants as kind
-use Rattle.cx_types.specs.declared.decl.ClassBody.{ClassBody}
-use Rattle.cx_types.specs.declared.decl.Extent.{Extent}
+use Rattle.cx_type_defs.specs.declared.answer.TypeAnswer.{TypeAnswer}
+use Rattle.cx_type_defs.specs.declared.answer.TypeAnswer.TheVariants as answer
+use Rattle.cx_type_defs.specs.declared.ids.TypeId.{TypeId}
+use Rattle.cx_type_defs.specs.declared.ids.ClassId.{ClassId}
+use Rattle.cx_type_defs.specs.declared.kind.TypeRow.{TypeRow}
+use Rattle.cx_type_defs.specs.declared.kind.TypeKind.{TypeKind}
+use Rattle.cx_type_defs.specs.declared.kind.TypeKind.TheVariants as kind
+use Rattle.cx_type_defs.specs.declared.decl.ClassBody.{ClassBody}
+use Rattle.cx_type_defs.specs.declared.decl.Extent.{Extent}
 use Rattle.cx_types.specs.declared.facts.RowFacts.{RowFacts}
 use Rattle.cx_types.specs.declared.facts.Measure.{Measure}
-use Rattle.cx_types.specs.Tables.{Tables, Grows, body_at}
-use Rattle.cx_types.specs.Questions.{Always, given, Question, Part, OfType, OfClass, address_answer, kind_answer, asked, depth_of, cells_of, nodes_of, literal_of, extent_of, literal_answer}
-use Rattle.cx_types.specs.Refusals.{is_large, large_kind, no_element, lacks_element, kind_refusal}
+use Rattle.cx_type_defs.specs.Tables.{Tables, Grows, body_at}
+use Rattle.cx_type_defs.specs.Questions.{Always, given, Question, Part, OfType, OfClass, address_answer, kind_answer, asked, depth_of, cells_of, nodes_of, literal_of, extent_of, literal_answer}
+use Rattle.cx_type_defs.specs.Refusals.{is_large, large_kind, no_element, lacks_element, kind_refusal}
 use Rattle.cx_types.specs.Kept.{RowTold, KeptRow, KeptClass, IsLeaf, IsNoClass, IsOpen, IsOpenKind, RowFound, IsAddressDepth, IsPlain}
-use Rattle.cx_types.proofs.Lists.{some_inj}
-use Rattle.cx_types.proofs.Looking.{row-grows, Grows-same}
-use Rattle.cx_types.proofs.Asked.{asked-opens, asked-kind, asked-class, asked-incomplete, no-body, under}
+use Rattle.cx_type_defs.proofs.Lists.{some_inj}
+use Rattle.cx_type_defs.proofs.Looking.{row-grows, Grows-same}
+use Rattle.cx_type_defs.proofs.Asked.{asked-opens, asked-kind, asked-class, asked-incomplete, no-body, under}
 
 pub asked-type_class : {R : Type 0} (q : Question R) (t : Tables) (id : TypeId) (row : TypeRow) (c : ClassId) → slice_get t.rows id.0 ≡ Some row → row.kind ≡ kind.Class c → asked q t (OfType id) ≡ asked q t (OfClass c)
 asked-type_class q t id row c at is = asked-kind q t id row at ∙ ap (kind_answer q t (under q t)) is ∙ sym (asked-class q t c)

@@ -1,8 +1,7 @@
 -- What the crate's tests find of each item of a list.
-use Rattle.std.proofs.Common.{◌≡◌, ℕ, suc, ◌+◌, ◌<◌, ◌≤◌, inl, inr, List, [], ◌∷◌, ◌++◌, Some, slice_get, length, map, take, sum, get_or, refl, sym, subst, arith}
+use Rattle.std.proofs.Common.{◌≡◌, ℕ, ◌+◌, ◌<◌, ◌≤◌, inl, inr, List, [], ◌∷◌, ◌++◌, Some, slice_get, length, map, take, sum, get_or, sym, ap, subst, arith}
 use Rattle.std.proofs.lemmas.List.{take_more, take_all}
-use Rattle.cx_types.proofs.Lists.{slice_get-push}
-use Rattle.cx_types.proofs.Totals.{sum-cons}
+use Rattle.cx_type_defs.proofs.Lists.{slice_get-push}
 
 pub record AllAt {A : Type 0} (P : A → Type 0) (xs : List A) : Type 0 where
   pub at : (i : ℕ) (x : A) → slice_get xs i ≡ Some x → P x
@@ -21,10 +20,7 @@ AllAt-more P xs i d h p all = subst (AllAt P) (sym (take_more xs i d h)) (AllAt-
 pub AllAt-whole : {A : Type 0} (P : A → Type 0) (xs : List A) (i : ℕ) → length xs ≤ i → AllAt P (take i xs) → AllAt P xs
 AllAt-whole P xs i h all = subst (AllAt P) (take_all i xs h) all
 
-pub sum-none : {A : Type 0} (f : A → ℕ) (xs : List A) → ((i : ℕ) (x : A) → slice_get xs i ≡ Some x → f x ≡ 0) → sum (map f xs) ≡ 0
-sum-none f [] none = refl
-sum-none f (x ∷ xs) none =
-    let here : f x ≡ 0 = none 0 x refl in
-    let rest : sum (map f xs) ≡ 0 = sum-none f xs (λ i y e. none (suc i) y e) in
-    let both : sum (map f (x ∷ xs)) ≡ f x + sum (map f xs) = sum-cons (f x) (map f xs) in
+pub sum-whole : {A : Type 0} (f : A → ℕ) (xs : List A) (i left all : ℕ) → length xs ≤ i → left + sum (map f (take i xs)) ≡ all → sum (map f xs) ≤ all
+sum-whole f xs i left all h e =
+    let whole : sum (map f (take i xs)) ≡ sum (map f xs) = ap (λ l. sum (map f l)) (take_all i xs h) in
     omega arith

@@ -4,13 +4,13 @@ use Rattle.std.proofs.lemmas.List.{take_more}
 use Rattle.std.proofs.lemmas.List.Sums.{sum_by_push, sum_by-append}
 use Rattle.cx_types.specs.declared.facts.Measure.{Measure}
 use Rattle.std.specs.Prelude.{◌≢◌, Option, None, Some, is_some, unwrap_or, option_map, IfSome, if◌then◌else◌}
-use Rattle.cx_types.specs.declared.decl.ClassKey.{ClassKey}
-use Rattle.cx_types.specs.declared.decl.ClassFlags.{ClassFlags}
-use Rattle.cx_types.specs.declared.decl.Extent.{Extent}
-use Rattle.cx_types.specs.Questions.{most, all_true, any_true, end_of, rounded, widest, strictest, both, each, class_extent, depth_of, cells_of, nodes_of, literal_of, extent_of}
+use Rattle.cx_type_defs.specs.declared.decl.ClassKey.{ClassKey}
+use Rattle.cx_type_defs.specs.declared.decl.ClassFlags.{ClassFlags}
+use Rattle.cx_type_defs.specs.declared.decl.Extent.{Extent}
+use Rattle.cx_type_defs.specs.Questions.{most, all_true, any_true, end_of, rounded, widest, strictest, both, each, class_extent, depth_of, cells_of, nodes_of, literal_of, extent_of}
 use Rattle.cx_types.specs.Kept.{Fitting}
 use Rattle.cx_types.specs.Parts.{laid, IsGood, AreGood, IsAllSized, WasMeasured, Capped}
-use Rattle.cx_types.proofs.Levels.{most-append}
+use Rattle.cx_type_defs.proofs.Levels.{most-append}
 use Rattle.cx_types.proofs.Rows.{large-false}
 
 map-push : {A B : Type 0} (g : A → B) (xs : List A) (x : A) → map g (xs ++ x ∷ []) ≡ map g xs ++ g x ∷ []

@@ -1,21 +1,23 @@
 -- What the tables keep beside their lists, so that each question is answered at once: what is kept is what is asked, now
 -- and where the tables have grown. No contract of a public call cites this.
-use Rattle.std.specs.Prelude.{◌≡◌, ℕ, ◌+◌, ◌*◌, ◌≤◌, List, length, Option, None, Some, Result, Ok, Err, slice_get, option_map, option_and_then}
-use Rattle.cx_types.specs.declared.ids.TypeId.{TypeId}
-use Rattle.cx_types.specs.declared.ids.ClassId.{ClassId}
-use Rattle.cx_types.specs.declared.kind.TypeRow.{TypeRow}
-use Rattle.cx_types.specs.declared.kind.TypeKind.{TypeKind}
-use Rattle.cx_types.specs.declared.kind.TypeKind.TheVariants as kind
-use Rattle.cx_types.specs.declared.decl.ClassDecl.{ClassDecl}
-use Rattle.cx_types.specs.declared.decl.ClassBody.{ClassBody}
-use Rattle.cx_types.specs.declared.decl.Extent.{Extent}
+use Rattle.std.specs.Prelude.{◌≡◌, ℕ, ◌+◌, ◌*◌, ◌^◌, ◌<◌, ◌≤◌, List, length, Option, None, Some, Result, Ok, Err, slice_get, option_map, option_and_then}
+use Rattle.cx_type_defs.specs.declared.ids.TypeId.{TypeId}
+use Rattle.cx_type_defs.specs.declared.ids.ClassId.{ClassId}
+use Rattle.cx_type_defs.specs.declared.ids.FuncId.{FuncId}
+use Rattle.cx_type_defs.specs.declared.kind.TypeRow.{TypeRow}
+use Rattle.cx_type_defs.specs.declared.kind.TypeKind.{TypeKind}
+use Rattle.cx_type_defs.specs.declared.kind.TypeKind.TheVariants as kind
+use Rattle.cx_type_defs.specs.declared.decl.ClassDecl.{ClassDecl}
+use Rattle.cx_type_defs.specs.declared.decl.ClassBody.{ClassBody}
+use Rattle.cx_type_defs.specs.declared.decl.Extent.{Extent}
 use Rattle.cx_types.specs.declared.facts.Facts.{Facts}
 use Rattle.cx_types.specs.declared.facts.RowFacts.{RowFacts}
 use Rattle.cx_types.specs.declared.facts.Measure.{Measure}
-use Rattle.cx_types.specs.declared.answer.TypeAnswer.{TypeAnswer}
-use Rattle.cx_types.specs.Refusals.{kind_refusal}
-use Rattle.cx_types.specs.Tables.{Tables, Grows, IsKnown, body_at}
-use Rattle.cx_types.specs.Questions.{Part, OfType, OfClass, asked, address_answer, kind_answer, depth_of, cells_of, nodes_of, literal_of, extent_of}
+use Rattle.cx_type_defs.specs.declared.answer.TypeAnswer.{TypeAnswer}
+use Rattle.cx_type_defs.specs.Refusals.{kind_refusal}
+use Rattle.cx_type_defs.specs.Tables.{Tables, Grows, IsKnown, body_at, lists_function, declared_pure}
+use Rattle.cx_type_defs.specs.Slots.{base_slots}
+use Rattle.cx_type_defs.specs.Questions.{Part, OfType, OfClass, asked, address_answer, kind_answer, depth_of, cells_of, nodes_of, literal_of, extent_of}
 
 pub record Told (t : Tables) (p : Part) (f : Facts) : Type 0 where
   pub depth_told : asked depth_of t p ≡ Some f.depth
@@ -77,6 +79,21 @@ pub record Kept (t : Tables) (facts : List RowFacts) (measures : List (Option Me
   pub known : (i : ℕ) (r : TypeRow) → slice_get t.rows i ≡ Some r → IsKnown t r.kind
   pub rows_kept : (id : TypeId) (r : TypeRow) (f : RowFacts) → slice_get t.rows id.0 ≡ Some r → slice_get facts id.0 ≡ Some f → IsNoClass r.kind → KeptRow t id f
   pub classes_kept : (c : ClassId) (d : ClassDecl) (m : Option Measure) → slice_get t.classes c.0 ≡ Some d → slice_get measures c.0 ≡ Some m → KeptClass t c d.body m
+
+-- a class has at least as many slots as its bases together, and their numbers are below 2^32
+pub record KeptSlots (t : Tables) (b : ClassBody) : Type 0 where
+  pub few_slots : length b.slots < 2 ^ 32
+  pub bases_fit : (u : Tables) → Grows t u → base_slots u b ≤ length b.slots
+
+abbrev pub SlotsFit : Tables → Option ClassBody → Type 0
+SlotsFit t None = Unit {0}
+SlotsFit t (Some b) = KeptSlots t b
+
+-- all that the tables keep: what is found of types and classes, the slots of bases, and the pure functions
+pub record AllKept (t : Tables) (facts : List RowFacts) (measures : List (Option Measure)) (pures : List FuncId) : Type 0 where
+  pub measures_kept : Kept t facts measures
+  pub slots_kept : (c : ClassId) (d : ClassDecl) → slice_get t.classes c.0 ≡ Some d → SlotsFit t d.body
+  pub pures_kept : (f : FuncId) → lists_function f pures ≡ declared_pure t f
 
 -- a row is of an incomplete class
 abbrev pub IsOpenKind : Tables → TypeKind → Type 0

@@ -2,18 +2,18 @@
 use Rattle.std.specs.Prelude.{◌≡◌, ℕ, ◌+◌, ◌<◌, ◌≤◌, Bool, true, false, List, [], ◌∷◌, length, Option, None, Some, Result, Ok, Err, map, is_some, unwrap_or}
 use Rattle.std.specs.List.{list_any}
 use Rattle.std.specs.Global.{Vec}
-use Rattle.cx_types.specs.declared.answer.TypeAnswer.{TypeAnswer}
-use Rattle.cx_types.specs.declared.answer.TypeAnswer.TheVariants as answer
-use Rattle.cx_types.specs.declared.decl.Field.{Field}
-use Rattle.cx_types.specs.declared.decl.Extent.{Extent}
-use Rattle.cx_types.specs.declared.decl.ClassBody.{ClassBody}
-use Rattle.cx_types.specs.declared.decl.ClassKey.{ClassKey}
-use Rattle.cx_types.specs.declared.decl.ClassFlags.{ClassFlags}
+use Rattle.cx_type_defs.specs.declared.answer.TypeAnswer.{TypeAnswer}
+use Rattle.cx_type_defs.specs.declared.answer.TypeAnswer.TheVariants as answer
+use Rattle.cx_type_defs.specs.declared.decl.Field.{Field}
+use Rattle.cx_type_defs.specs.declared.decl.Extent.{Extent}
+use Rattle.cx_type_defs.specs.declared.decl.ClassBody.{ClassBody}
+use Rattle.cx_type_defs.specs.declared.decl.ClassKey.{ClassKey}
+use Rattle.cx_type_defs.specs.declared.decl.ClassFlags.{ClassFlags}
 use Rattle.cx_types.specs.declared.facts.Measure.{Measure}
-use Rattle.cx_types.specs.Tables.{Tables}
-use Rattle.cx_types.specs.Questions.{Part, OfType, body_answer, asked, depth_of, cells_of, nodes_of, literal_of, extent_of, all_true}
-use Rattle.cx_types.specs.declared.decl.ClassDecl.{ClassDecl}
-use Rattle.cx_types.specs.Refusals.{is_large, body_refusal, Refuses}
+use Rattle.cx_type_defs.specs.Tables.{Tables}
+use Rattle.cx_type_defs.specs.Questions.{Part, OfType, body_answer, asked, depth_of, cells_of, nodes_of, literal_of, extent_of, all_true}
+use Rattle.cx_type_defs.specs.declared.decl.ClassDecl.{ClassDecl}
+use Rattle.cx_type_defs.specs.Refusals.{is_large, body_refusal, Refuses}
 use Rattle.cx_types.specs.Kept.{Told, Small, Fitting}
 
 abbrev pub laid : Measure → Extent

@@ -1,5 +1,4 @@
-use crate::decl::Extent;
-use crate::ids::TypeId;
+use cx_type_defs::{Extent, TypeId};
 
 /// What is kept of a type, complete or not.
 #[derive(Clone, Copy, Debug)]

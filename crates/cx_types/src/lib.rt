@@ -1,25 +1,19 @@
 //! The tables of types, classes and enumerations, and what is asked of them.
 #![tactic(auto)]
 
-mod answer;
-mod decl;
 mod facts;
-mod ids;
-mod kind;
-mod laws;
+mod func_set;
 mod measured;
 mod row_set;
 mod sums;
 mod tables;
 #[cfg(test)]
 mod tests;
-mod values;
 mod vectors;
 
-pub use answer::TypeAnswer;
-pub use cx_base::IntType;
-pub use decl::{ClassBody, ClassDecl, ClassFlags, ClassKey, EnumDecl, EnumEnd, Extent, Field};
-pub use ids::{ClassId, EnumId, FuncId, Step, TypeId, VarId};
-pub use kind::{TypeKind, TypeRow};
-pub use laws::{answers_stay, field_is_smallest, growth_is_an_order, questions_open};
+pub use cx_type_defs::{
+    ClassBody, ClassDecl, ClassFlags, ClassId, ClassKey, EnumDecl, EnumEnd, EnumId, Extent, Field,
+    FuncId, IntType, Step, TypeAnswer, TypeId, TypeKind, TypeRow, VarId, answers_stay,
+    enumerators_in_range, field_is_smallest, growth_is_an_order, questions_open, underlying_of,
+};
 pub use tables::Types;

@@ -1,14 +1,14 @@
 ghost use Rattle.std.specs.Prelude.{◌≡◌, ℕ, ◌+◌, ◌*◌, ◌<◌, ◌≤◌, true, false, List, [], length, map, min, max, sum, IfSome};
-ghost use Rattle.cx_types.specs.Questions.{most, by_key, all_true, any_true, end_of, widest, class_extent, literal_of, extent_of};
+ghost use Rattle.cx_type_defs.specs.Questions.{most, by_key, all_true, any_true, end_of, widest, class_extent, literal_of, extent_of};
 ghost use Rattle.cx_types.specs.Kept.{Fitting};
 ghost use Rattle.cx_types.specs.Parts.{laid, IsAllSized, AreGood, Capped, WasMeasured};
 
-use crate::decl::{ClassFlags, ClassKey, Extent};
 use crate::facts::{Facts, Measure};
 use crate::sums::{
     all_literal, all_sized, any_literal, deepest, largest, last_end, round_up, strictest_align,
     total_cells, total_nodes, widest_size,
 };
+use cx_type_defs::{ClassFlags, ClassKey, Extent};
 
 const MOST_DEPTH: u32 = 512;
 

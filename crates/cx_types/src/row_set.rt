@@ -1,9 +1,8 @@
 ghost use Rattle.std.specs.Prelude.{◌≡◌, ℕ, ◌-◌, ◌^◌, ◌<◌, [], ◌∷◌, ◌++◌, length, slice_get, true, false, IfOk, OnErr};
 ghost use Rattle.std.specs.List.{Contains};
 
-use crate::ids::TypeId;
-use crate::kind::TypeRow;
 use cx_base::Memory;
+use cx_type_defs::{TypeId, TypeRow};
 use indexmap::IndexSet;
 use std::alloc::Global;
 use std::marker::Model;
@@ -16,7 +15,7 @@ pub struct RowSet {
 
 impl Model for RowSet {
     ghost use Rattle.std.specs.Prelude.{List};
-    ghost use Rattle.cx_types.specs.declared.kind.TypeRow.{TypeRow};
+    ghost use Rattle.cx_type_defs.specs.declared.kind.TypeRow.{TypeRow};
 
     ghost Value = { List TypeRow };
 

@@ -1,9 +1,9 @@
 ghost use Rattle.std.specs.Prelude.{◌≡◌, ℕ, ◌+◌, ◌*◌, ◌<◌, ◌≤◌, true, List, [], ◌∷◌, ◌++◌, length, map, min, max, sum, slice_get, is_some, take};
-ghost use Rattle.cx_types.specs.Questions.{most, all_true, any_true, end_of, rounded, widest, strictest};
+ghost use Rattle.cx_type_defs.specs.Questions.{most, all_true, any_true, end_of, rounded, widest, strictest};
 ghost use Rattle.cx_types.specs.Parts.{laid, IsAllSized, AreGood};
 
-use crate::decl::Extent;
 use crate::facts::Measure;
+use cx_type_defs::Extent;
 
 /// One more than the most cells of a type.
 pub const CELLS_CAP: u64 = 1_073_741_825;

@@ -1,17 +1,17 @@
 ghost use Rattle.std.specs.Prelude.{◌≡◌, ◌==◌, ℕ, ◌+◌, ◌-◌, ◌^◌, ◌<◌, ◌≤◌, ◌↔◌, [], ◌∷◌, ◌++◌, length, slice_get, Option, Some, None, is_some, option_map, IsSome, IfSome, IsTrue, IfOk, OnOk, OnErr};
-ghost use Rattle.cx_types.specs.Tables.{Tables, no_types, with_class, with_enum, with_end, with_body, body_at, base_of, field_of, overrider, under_at, declared_pure, body_declares};
-ghost use Rattle.std.specs.List.{list_any};
-ghost use Rattle.cx_types.specs.Enums.{MayEnd, values_at};
+ghost use Rattle.cx_type_defs.specs.Tables.{Tables, no_types, with_class, with_enum, with_end, with_body, body_at, base_of, field_of, overrider, under_at, declared_pure};
+ghost use Rattle.cx_type_defs.specs.Enums.{MayEnd, values_at};
 ghost use Rattle.cx_types.specs.Kept.{KeptClass};
 
-use crate::decl::{ClassBody, ClassDecl, ClassFlags, ClassKey, EnumDecl, EnumEnd, Field};
 use crate::facts::{Measure, RowFacts};
-use crate::ids::{ClassId, EnumId, FuncId, TypeId};
-use crate::kind::TypeRow;
+use crate::func_set::FuncSet;
 use crate::row_set::RowSet;
-use crate::values::enum_values;
 use crate::vectors::{end_at, push};
 use cx_base::{IntType, Memory, Span, Text};
+use cx_type_defs::{
+    ClassBody, ClassDecl, ClassFlags, ClassId, ClassKey, EnumDecl, EnumEnd, EnumId, Field, FuncId,
+    TypeId, TypeRow, enum_values,
+};
 use std::alloc::Global;
 use std::marker::Model;
 
@@ -20,6 +20,7 @@ mod close;
 mod intern;
 #[cfg(test)]
 mod known;
+mod slots;
 
 /// A program's types, classes and enumerations, that contracts see as lists in order of declaration.
 #[derive(Debug, Drop)]
@@ -29,19 +30,20 @@ pub struct Types {
     facts: Vec<RowFacts>,
     classes: Vec<ClassDecl>,
     measures: Vec<Option<Measure>>,
+    pures: FuncSet,
     enums: Vec<EnumDecl>,
 }
 
 impl Model for Types {
-    ghost use Rattle.cx_types.specs.Tables.{Tables};
+    ghost use Rattle.cx_type_defs.specs.Tables.{Tables};
 
     ghost Value = { Tables };
 
-    ghost use Rattle.cx_types.specs.Kept.{Kept};
+    ghost use Rattle.cx_types.specs.Kept.{AllKept};
 
     ghost view = { λ s. record { rows = s.rows; classes = s.classes.items; enums = s.enums.items } };
 
-    ghost invariant = { λ s. Kept (record { rows = s.rows; classes = s.classes.items; enums = s.enums.items }) s.facts.items s.measures.items };
+    ghost invariant = { λ s. AllKept (record { rows = s.rows; classes = s.classes.items; enums = s.enums.items }) s.facts.items s.measures.items s.pures };
 }
 
 impl Types {
@@ -55,6 +57,7 @@ impl Types {
             facts: Vec::new(alloc),
             classes: Vec::new(alloc),
             measures: Vec::new(alloc),
+            pures: FuncSet::new(alloc),
             enums: Vec::new(alloc),
         })
     }
@@ -231,7 +234,7 @@ impl Types {
         self.field(class, i).init
     }
 
-    /// What the class's slot holds; None exactly where it has no such slot, as an incomplete class.
+    /// What the class's slot holds ([class.virtual]); None exactly where it has no such slot, as an incomplete class.
     pub fn final_overrider(&self, class: ClassId, slot: u32) -> Option<FuncId>
         requires { class.0 < length self.now.classes }
         ensures { result ≡ overrider self.now class slot }
@@ -290,26 +293,10 @@ impl Types {
         end_at(&mut self.enums, id.0 as usize, EnumEnd { under, low, high });
     }
 
-    /// Whether a complete class declares the function pure ([class.abstract]). It searches the pure functions of every
-    /// class; each other question is answered in constant time.
+    /// Whether a complete class declares the function pure ([class.abstract]): one look-up by hash.
     pub fn is_pure(&self, func: FuncId) -> bool
         ensures { result ≡ declared_pure self.now func }
     {
-        self.classes.iter().any(|decl| declares_pure(decl, func))
+        self.pures.has(func)
     }
-}
-
-fn declares_pure(decl: &ClassDecl, func: FuncId) -> bool
-    ensures { result ≡ body_declares func decl.now.body }
-{
-    match &decl.body {
-        Some(body) => lists_function(body.pures.as_slice(), func),
-        None => false,
-    }
-}
-
-fn lists_function(functions: &[FuncId], func: FuncId) -> bool
-    ensures { result ≡ list_any (λ (g : FuncId). g.0 == func.0) functions.now }
-{
-    functions.iter().any(|g| g.0 == func.0)
 }

@@ -1,10 +1,11 @@
 //! Sizes, cells and limits worked out by hand, and what is refused.
-ghost use Rattle.std.specs.Prelude.{◌≡◌, ℕ, ◌<◌, ◌≤◌, true, length, slice_get, Some, sum, map};
-ghost use Rattle.cx_types.specs.Refusals.{IsKnownBody, base_slots, slot_count};
+ghost use Rattle.std.specs.Prelude.{◌≡◌, ℕ, ◌^◌, ◌<◌, ◌≤◌, true, length, map, slice_get, sum, Some};
+ghost use Rattle.cx_type_defs.specs.Refusals.{IsKnownBody};
+ghost use Rattle.cx_type_defs.specs.Slots.{base_slots, slot_count};
 
 use crate::{
     ClassBody, ClassFlags, ClassId, ClassKey, Field, FuncId, TypeAnswer, TypeId, TypeKind, TypeRow,
-    Types,
+    Types, underlying_of,
 };
 use cx_base::{IntType, List, Mark, Rule, Span, Text};
 use std::alloc::Global;
@@ -80,13 +81,27 @@ fn knows_fields(types: &Types, fields: &[Field]) -> bool
 }
 
 fn knows_bases(types: &Types, bases: &[ClassId]) -> bool
-    ensures known { result ≡ true → (i : ℕ) (c : ClassId) → slice_get bases.now i ≡ Some c → c.0 < length types.now.classes }
-    ensures slots { result ≡ true → sum (map (slot_count types.now) bases.now) ≡ 0 }
+    ensures { result ≡ true → (i : ℕ) (c : ClassId) → slice_get bases.now i ≡ Some c → c.0 < length types.now.classes }
 {
     for base in bases {
-        if !types.has_slotless(*base) {
+        if !types.has_class(*base) {
             return false;
         }
+    }
+    true
+}
+
+/// So many slots are enough for the bases.
+fn has_slots(types: &Types, bases: &[ClassId], slots: usize) -> bool
+    ensures { result ≡ true → sum (map (slot_count types.now) bases.now) ≤ slots }
+{
+    let mut left = slots;
+    for base in bases {
+        let count = types.slot_count(*base);
+        if count > left {
+            return false;
+        }
+        left -= count;
     }
     true
 }
@@ -94,8 +109,12 @@ fn knows_bases(types: &Types, bases: &[ClassId]) -> bool
 fn may_complete(types: &Types, body: &ClassBody) -> bool
     ensures known { result ≡ true → IsKnownBody types.now body.now }
     ensures slots { result ≡ true → base_slots types.now body.now ≤ length body.now.slots }
+    ensures few { result ≡ true → length body.now.slots < 2 ^ 32 }
 {
-    knows_bases(types, body.bases.as_slice()) && knows_fields(types, body.fields.as_slice())
+    knows_bases(types, body.bases.as_slice())
+        && knows_fields(types, body.fields.as_slice())
+        && has_slots(types, body.bases.as_slice(), body.slots.len())
+        && body.slots.len() < 1000
 }
 
 /// The type of a new class, incomplete.
@@ -292,6 +311,98 @@ fn sizes_of_scalars(rt: HostRuntime) {
             sizes(&rt, &types, id) == (Ok(size), Ok(size), Ok(1)),
             "a size of {size}"
         );
+    }
+}
+
+/// A class with the slots, derived from the bases.
+fn derive(
+    rt: &impl Abort,
+    alloc: Global,
+    types: &mut Types,
+    bases: &[ClassId],
+    slots: &[u32],
+) -> ClassId {
+    let (class, _) = begin(rt, alloc, types, ClassKey::Class);
+    let mut shape = body(alloc, bases, &[]);
+    shape.flags.has_virtual = true;
+    for slot in slots {
+        shape.slots.push(FuncId(*slot)).expect(rt, "memory");
+    }
+    assert!(rt; end(rt, types, class, shape) == Ok(()));
+    class
+}
+
+#[test]
+fn slots_through_two_bases(rt: HostRuntime) {
+    let alloc = rt.alloc();
+    let mut types = Types::new(alloc).expect(&rt, "memory");
+    let first = derive(&rt, alloc, &mut types, &[], &[10, 11]);
+    let second = derive(&rt, alloc, &mut types, &[], &[20, 21, 22]);
+    let both = derive(
+        &rt,
+        alloc,
+        &mut types,
+        &[first, second],
+        &[10, 31, 20, 21, 32, 33],
+    );
+    let last = derive(
+        &rt,
+        alloc,
+        &mut types,
+        &[second, both],
+        &[20, 21, 22, 10, 31, 40, 21, 32, 33],
+    );
+    for (class, base, slot, want) in [
+        (both, 0, 0, Some(0)),
+        (both, 0, 1, Some(1)),
+        (both, 0, 2, None),
+        (both, 1, 0, Some(2)),
+        (both, 1, 2, Some(4)),
+        (both, 1, 3, None),
+        (both, 2, 0, None),
+        (last, 0, 2, Some(2)),
+        (last, 1, 0, Some(3)),
+        (last, 1, 5, Some(8)),
+        (last, 1, 6, None),
+        (first, 0, 0, None),
+    ] {
+        assert!(rt; types.has_class(class));
+        assert!(rt;
+            types.base_slot(class, base, slot) == want,
+            "slot {slot} of base {base}"
+        );
+    }
+    assert!(rt; types.has_class(both));
+    assert!(rt; types.final_overrider(both, 1) == Some(FuncId(31)));
+    assert!(rt; types.final_overrider(both, 4) == Some(FuncId(32)));
+    let (unfinished, _) = begin(&rt, alloc, &mut types, ClassKey::Class);
+    assert!(rt; types.has_class(unfinished));
+    assert!(rt; types.base_slot(unfinished, 0, 0) == None);
+}
+
+#[test]
+fn underlying_types_without_a_fixed_one(rt: HostRuntime) {
+    for (low, high, want) in [
+        (0, 0, Some(IntType::Int)),
+        (-2147483648, 2147483647, Some(IntType::Int)),
+        (0, 2147483648, Some(IntType::UInt)),
+        (0, 4294967295, Some(IntType::UInt)),
+        (-1, 2147483648, Some(IntType::Long)),
+        (-2147483649, 0, Some(IntType::Long)),
+        (0, 4294967296, Some(IntType::Long)),
+        (-1, 4294967295, Some(IntType::Long)),
+        (
+            -9223372036854775808,
+            9223372036854775807,
+            Some(IntType::Long),
+        ),
+        (0, 9223372036854775808, Some(IntType::ULong)),
+        (0, 18446744073709551615, Some(IntType::ULong)),
+        (0, 18446744073709551616, None),
+        (-1, 9223372036854775808, None),
+        (-9223372036854775809, 0, None),
+    ] {
+        assert!(rt; underlying_of(low, high) == want, "from {low} to {high}");
     }
 }
 

@@ -1,8 +1,8 @@
 ghost use Rattle.std.specs.Prelude.{◌≡◌, ◌<◌, [], ◌∷◌, ◌++◌, length, OnOk, OnErr};
-ghost use Rattle.cx_types.specs.Tables.{changed_at};
+ghost use Rattle.cx_type_defs.specs.Tables.{changed_at};
 
-use crate::decl::{ClassBody, ClassDecl, EnumDecl, EnumEnd};
 use cx_base::Memory;
+use cx_type_defs::{ClassBody, ClassDecl, EnumDecl, EnumEnd};
 
 /// A refused push changes nothing.
 pub fn push<T: Drop>(items: &mut Vec<T>, item: T) -> Result<(), Memory>

@@ -1,14 +1,12 @@
 ghost use Rattle.std.specs.Prelude.{◌≡◌, ℕ, ◌+◌, ◌*◌, ◌<◌, ◌≤◌, true, length, slice_get, Option, Some, None, option_map};
-ghost use Rattle.cx_types.specs.Tables.{Tables, IsKnown, int_size, under_at};
-ghost use Rattle.cx_types.specs.Questions.{OfType, OfClass, asked, extent_of, bytes, is_complete, literal_answer, size_answer, align_answer, cells_answer};
+ghost use Rattle.cx_type_defs.specs.Tables.{Tables, IsKnown, int_size, under_at};
+ghost use Rattle.cx_type_defs.specs.Questions.{OfType, OfClass, asked, extent_of, bytes, is_complete, literal_answer, size_answer, align_answer, cells_answer};
 ghost use Rattle.cx_types.specs.Kept.{KeptType, KeptRow, IsLeafAt};
 
-use crate::decl::Extent;
 use crate::facts::RowFacts;
-use crate::ids::{ClassId, EnumId, TypeId};
-use crate::kind::{TypeKind, TypeRow};
 use crate::tables::Types;
 use cx_base::{IntType, Rule};
+use cx_type_defs::{ClassId, EnumId, Extent, TypeId, TypeKind, TypeRow};
 
 impl Types {
     /// What is kept of a type; None exactly where it is an incomplete class.

@@ -1,17 +1,17 @@
-ghost use Rattle.std.specs.Prelude.{◌≡◌, ℕ, ◌+◌, ◌<◌, ◌≤◌, [], ◌∷◌, ◌++◌, length, not, is_none, slice_get, Option, Some, None, Ok, Err, option_map, IfErr, OnOk, OnErr, MatchOption};
+ghost use Rattle.std.specs.Prelude.{◌≡◌, ℕ, ◌+◌, ◌^◌, ◌<◌, ◌≤◌, [], ◌∷◌, ◌++◌, length, not, is_none, slice_get, Option, Some, None, Ok, Err, option_map, IfErr, OnOk, OnErr, MatchOption};
 ghost use Rattle.std.specs.List.{list_any};
-ghost use Rattle.cx_types.specs.Tables.{Tables, with_body, body_at};
-ghost use Rattle.cx_types.specs.Questions.{OfType, OfClass, asked, extent_of, is_complete};
-ghost use Rattle.cx_types.specs.Refusals.{class_refusal, Refuses, IsKnownBody, IsIncomplete, base_slots};
+ghost use Rattle.cx_type_defs.specs.Tables.{Tables, with_body, body_at};
+ghost use Rattle.cx_type_defs.specs.Questions.{OfType, OfClass, asked, extent_of, is_complete};
+ghost use Rattle.cx_type_defs.specs.Refusals.{class_refusal, Refuses, IsKnownBody, IsIncomplete};
+ghost use Rattle.cx_type_defs.specs.Slots.{base_slots};
 ghost use Rattle.cx_types.specs.Parts.{PartTold, PartsTold, GatheredVec, part_of_field, BodyTold, BodyMeasured, IsOpenClass};
 
-use crate::answer::TypeAnswer;
-use crate::decl::{ClassBody, ClassKey, Extent, Field};
 use crate::facts::Measure;
-use crate::ids::{ClassId, TypeId};
 use crate::measured::measured;
 use crate::tables::Types;
 use crate::vectors::complete_at;
+use cx_base::Memory;
+use cx_type_defs::{ClassBody, ClassId, ClassKey, Extent, Field, TypeAnswer, TypeId};
 
 impl Types {
     /// The measure of a complete type.
@@ -116,22 +116,35 @@ impl Types {
         }
     }
 
-    fn complete_class(&mut self, class: ClassId, key: ClassKey, body: ClassBody, measure: Measure)
+    /// The functions that the class declares pure come first, since they alone need room.
+    fn complete_class(
+        &mut self,
+        class: ClassId,
+        key: ClassKey,
+        body: ClassBody,
+        measure: Measure,
+    ) -> Result<(), Memory>
         requires opened { IsOpenClass (slice_get self.old.classes class.0) key }
         requires told { BodyTold self.old key body measure }
-        ensures { self.new ≡ with_body self.old class body }
+        requires slots { base_slots self.old body ≤ length body.slots }
+        requires few { length body.slots < 2 ^ 32 }
+        ensures ok { OnOk result (self.new ≡ with_body self.old class body) }
+        ensures err { OnErr result (self.new ≡ self.old) }
     {
+        self.pures.add_all(body.pures.as_slice())?;
         complete_at(&mut self.classes, class.0 as usize, body);
         self.measures[class.0 as usize] = Some(measure);
+        Ok(())
     }
 
     /// The class is complete. It asks that it wasn't complete before, that what the body names is known, and that it
-    /// has at least as many slots as its bases have together. After a refusal the class stays incomplete.
-    /// A call takes time linear in the number of bases and members.
+    /// has at least as many slots as its bases have together, and fewer than 2^32. After a refusal the class stays
+    /// incomplete. A call takes time linear in the number of bases, members and functions declared pure.
     pub fn class_end(&mut self, class: ClassId, body: ClassBody) -> Result<(), TypeAnswer>
         requires incomplete { IsIncomplete (slice_get self.old.classes class.0) }
         requires known { IsKnownBody self.old body }
         requires slots { base_slots self.old body ≤ length body.slots }
+        requires few { length body.slots < 2 ^ 32 }
         ensures taken { OnOk result (class_refusal self.old class body ≡ None) }
         ensures refused { IfErr result (λ e. Refuses (class_refusal self.old class body) e) }
         ensures ok { OnOk result (self.new ≡ with_body self.old class body) }
@@ -139,10 +152,10 @@ impl Types {
     {
         let key = self.key(class);
         match self.body_measure(key, &body) {
-            Ok(measure) => {
-                self.complete_class(class, key, body, measure);
-                Ok(())
-            }
+            Ok(measure) => match self.complete_class(class, key, body, measure) {
+                Ok(()) => Ok(()),
+                Err(_) => Err(TypeAnswer::Memory),
+            },
             Err(answer) => Err(answer),
         }
     }

@@ -1,13 +1,11 @@
 ghost use Rattle.std.specs.Prelude.{◌≡◌, ℕ, ◌+◌, ◌-◌, ◌^◌, ◌<◌, ◌≤◌, ◌⊎◌, [], ◌∷◌, ◌++◌, length, slice_get, true, Option, Some, None, IfOk, IfErr, OnOk, OnErr};
-ghost use Rattle.cx_types.specs.Tables.{Tables, with_row, IsKnown};
-ghost use Rattle.cx_types.specs.Refusals.{kind_refusal, Refuses};
+ghost use Rattle.cx_type_defs.specs.Tables.{Tables, with_row, IsKnown};
+ghost use Rattle.cx_type_defs.specs.Refusals.{kind_refusal, Refuses};
 ghost use Rattle.cx_types.specs.Kept.{IsAddressDepth, RowFound, KeptRow, IsPlainAt};
 
-use crate::answer::TypeAnswer;
 use crate::facts::{Facts, RowFacts};
-use crate::ids::{ClassId, TypeId};
-use crate::kind::{TypeKind, TypeRow};
 use crate::tables::Types;
+use cx_type_defs::{ClassId, TypeAnswer, TypeId, TypeKind, TypeRow};
 
 const MOST_DEPTH: u32 = 512;
 

@@ -1,14 +1,12 @@
 //! What the calls ask for, as tests that the crate's own tests make.
 ghost use Rattle.std.specs.Prelude.{◌≡◌, ◌-◌, ◌^◌, ◌<◌, ◌≤ℤ◌, true, length, slice_get, IsSome};
-ghost use Rattle.cx_types.specs.Tables.{IsKnown, under_at};
-ghost use Rattle.cx_types.specs.Enums.{MayEnd, IsUnder, Holds, type_values};
-ghost use Rattle.cx_types.specs.Refusals.{IsIncomplete, slot_count};
+ghost use Rattle.cx_type_defs.specs.Tables.{IsKnown, under_at};
+ghost use Rattle.cx_type_defs.specs.Enums.{MayEnd, IsUnder, Holds, type_values};
+ghost use Rattle.cx_type_defs.specs.Refusals.{IsIncomplete};
 
-use crate::ids::{ClassId, EnumId, TypeId};
-use crate::kind::TypeKind;
 use crate::tables::Types;
-use crate::values::type_values;
 use cx_base::IntType;
+use cx_type_defs::{ClassId, EnumId, TypeId, TypeKind, type_values};
 
 impl Types {
     pub(crate) fn has_row(&self, id: TypeId) -> bool
@@ -44,18 +42,10 @@ impl Types {
         (class.0 as usize) < self.classes.len() && self.class(class).body.is_none()
     }
 
-    pub(crate) fn has_slotless(&self, class: ClassId) -> bool
-        ensures known { result ≡ true → class.0 < length self.now.classes }
-        ensures slots { result ≡ true → slot_count self.now class ≡ 0 }
+    pub(crate) fn has_class(&self, class: ClassId) -> bool
+        ensures { result ≡ true → class.0 < length self.now.classes }
     {
-        if (class.0 as usize) < self.classes.len() {
-            match &self.class(class).body {
-                Some(body) => body.slots.len() == 0,
-                None => true,
-            }
-        } else {
-            false
-        }
+        (class.0 as usize) < self.classes.len()
     }
 
     pub(crate) fn may_end(&self, id: EnumId, under: IntType, low: i128, high: i128) -> bool

@@ -1,6 +1,6 @@
 use Rattle.std.proofs.Common.{◌+◌, ◌<◌, ◌++◌, map, refl, inl, arith}
 use Rattle.cx_types.specs.declared.facts.Measure.{Measure}
-use Rattle.cx_types.specs.Questions.{most}
+use Rattle.cx_type_defs.specs.Questions.{most}
 use Rattle.cx_types.proofs.Rows.{large-true}
 use Rattle.cx_types.proofs.Totals.{most-small, depth-is, measured-known}
 use Rattle.cx_types.proofs.measured.measured.Goals as goal

@@ -1,6 +1,6 @@
 use Rattle.std.proofs.Common.{◌≡◌, ℕ, max, map, ap, ◌∙◌, arith}
-use Rattle.cx_types.specs.declared.decl.Extent.{Extent}
-use Rattle.cx_types.specs.Questions.{by_key, end_of, widest, strictest, rounded}
+use Rattle.cx_type_defs.specs.declared.decl.Extent.{Extent}
+use Rattle.cx_type_defs.specs.Questions.{by_key, end_of, widest, strictest, rounded}
 use Rattle.cx_types.specs.Parts.{laid}
 use Rattle.cx_types.proofs.Totals.{strictest-is, most-align}
 use Rattle.cx_types.proofs.measured.sized_extent.Goals as goal

@@ -1,7 +1,7 @@
 use Rattle.std.proofs.Common.{◌*◌, ◌≤◌, sum, map, ap, ◌∙◌, sym, subst, arith}
 use Rattle.cx_types.specs.declared.facts.Measure.{Measure}
-use Rattle.cx_types.specs.declared.decl.ClassKey.{ClassKey}
-use Rattle.cx_types.specs.Questions.{most, by_key, end_of, widest}
+use Rattle.cx_type_defs.specs.declared.decl.ClassKey.{ClassKey}
+use Rattle.cx_type_defs.specs.Questions.{most, by_key, end_of, widest}
 use Rattle.cx_types.specs.Parts.{laid}
 use Rattle.cx_types.proofs.Totals.{widest-is, most-size}
 use Rattle.cx_types.proofs.measured.used_size.Goals as goal

@@ -1,6 +1,6 @@
 use Rattle.std.proofs.Common.{◌≡◌, map, take}
 use Rattle.cx_types.specs.declared.facts.Measure.{Measure}
-use Rattle.cx_types.specs.Questions.{most}
+use Rattle.cx_type_defs.specs.Questions.{most}
 use Rattle.cx_types.proofs.sums.largest.Given as goal
 
 abbrev pub invariant-loop-part : goal.invariant-loop-part

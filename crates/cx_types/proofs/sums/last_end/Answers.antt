@@ -1,7 +1,7 @@
 use Rattle.std.proofs.Common.{◌+◌, ap, ◌∙◌, sym, subst, get_or, map, take, arith}
 use Rattle.cx_types.specs.declared.facts.Measure.{Measure}
-use Rattle.cx_types.specs.declared.decl.Extent.{Extent}
-use Rattle.cx_types.specs.Questions.{end_of, rounded}
+use Rattle.cx_type_defs.specs.declared.decl.Extent.{Extent}
+use Rattle.cx_type_defs.specs.Questions.{end_of, rounded}
 use Rattle.cx_types.specs.Kept.{Fitting}
 use Rattle.cx_types.specs.Parts.{laid}
 use Rattle.cx_types.proofs.Totals.{sum-more, sum-take, end-more, good-at, no_part}

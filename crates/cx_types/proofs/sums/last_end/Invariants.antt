@@ -1,6 +1,6 @@
 use Rattle.std.proofs.Common.{◌≡◌, ◌*◌, ◌≤◌, map, take, sum}
 use Rattle.cx_types.specs.declared.facts.Measure.{Measure}
-use Rattle.cx_types.specs.Questions.{end_of}
+use Rattle.cx_type_defs.specs.Questions.{end_of}
 use Rattle.cx_types.specs.Parts.{laid}
 use Rattle.cx_types.proofs.sums.last_end.Given as goal
 

@@ -1,6 +1,6 @@
 use Rattle.std.proofs.Common.{ap, ◌∙◌, sym, get_or, max}
 use Rattle.cx_types.specs.declared.facts.Measure.{Measure}
-use Rattle.cx_types.specs.declared.decl.Extent.{Extent}
+use Rattle.cx_type_defs.specs.declared.decl.Extent.{Extent}
 use Rattle.cx_types.specs.Parts.{laid}
 use Rattle.cx_types.proofs.Totals.{most-more, no_part}
 use Rattle.cx_types.proofs.sums.strictest_align.Goals as goal

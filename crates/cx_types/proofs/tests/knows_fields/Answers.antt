@@ -1,5 +1,5 @@
 use Rattle.std.proofs.Common.{◌<◌, length, subst}
-use Rattle.cx_types.specs.declared.decl.Field.{Field}
+use Rattle.cx_type_defs.specs.declared.decl.Field.{Field}
 use Rattle.cx_types.proofs.Testing.{AllAt-none, AllAt-more, AllAt-whole}
 use Rattle.cx_types.proofs.tests.knows_fields.Goals as goal
 

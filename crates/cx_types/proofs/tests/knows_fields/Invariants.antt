@@ -1,5 +1,5 @@
 use Rattle.std.proofs.Common.{◌<◌, take, length}
-use Rattle.cx_types.specs.declared.decl.Field.{Field}
+use Rattle.cx_type_defs.specs.declared.decl.Field.{Field}
 use Rattle.cx_types.proofs.Testing.{AllAt}
 use Rattle.cx_types.proofs.tests.knows_fields.Given as goal
 

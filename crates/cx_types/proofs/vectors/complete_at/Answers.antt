@@ -1,6 +1,6 @@
 use Rattle.std.proofs.Common.{Some}
-use Rattle.cx_types.specs.declared.decl.ClassDecl.{ClassDecl}
-use Rattle.cx_types.proofs.Lists.{changed_at_set}
+use Rattle.cx_type_defs.specs.declared.decl.ClassDecl.{ClassDecl}
+use Rattle.cx_type_defs.proofs.Lists.{changed_at_set}
 use Rattle.cx_types.proofs.vectors.complete_at.Goals as goal
 
 pub returns : goal.returns

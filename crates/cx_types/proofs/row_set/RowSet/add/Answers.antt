@@ -1,5 +1,5 @@
-use Rattle.cx_types.proofs.Lists.{distinct-at}
-use Rattle.cx_types.specs.contracts.kind.TypeRowEq.TheImpl.Laws.{laws-law}
+use Rattle.cx_type_defs.proofs.Lists.{distinct-at}
+use Rattle.cx_type_defs.specs.contracts.kind.TypeRowEq.TheImpl.Laws.{laws-law}
 use Rattle.cx_types.proofs.row_set.RowSet.add.Goals as goal
 use Rattle.cx_types.proofs.row_set.RowSet.add.Goals.{in-Ok, in-Err}
 

@@ -1,9 +1,9 @@
 use Rattle.std.proofs.Common.{List, [], ◌∷◌, ◌++◌, take, get_or, sym, subst}
 use Rattle.std.proofs.lemmas.List.{take_more}
-use Rattle.cx_types.specs.declared.ids.ClassId.{ClassId}
+use Rattle.cx_type_defs.specs.declared.ids.ClassId.{ClassId}
 use Rattle.cx_types.specs.declared.facts.Measure.{Measure}
-use Rattle.cx_types.specs.Tables.{body_at}
-use Rattle.cx_types.specs.Questions.{OfClass}
+use Rattle.cx_type_defs.specs.Tables.{body_at}
+use Rattle.cx_type_defs.specs.Questions.{OfClass}
 use Rattle.cx_types.specs.Parts.{PartsTold}
 use Rattle.cx_types.proofs.Closing.{PartsTold-push, class-told}
 use Rattle.cx_types.proofs.tables.Types.base_measures.Goals as goal

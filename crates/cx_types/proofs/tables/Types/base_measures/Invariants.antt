@@ -1,5 +1,5 @@
 use Rattle.std.proofs.Common.{take}
-use Rattle.cx_types.specs.Questions.{OfClass}
+use Rattle.cx_type_defs.specs.Questions.{OfClass}
 use Rattle.cx_types.specs.Parts.{PartsTold}
 use Rattle.cx_types.proofs.tables.Types.base_measures.Given as goal
 

@@ -1,5 +1,5 @@
 use Rattle.std.proofs.Common.{sym}
-use Rattle.cx_types.specs.Tables.{body_at}
+use Rattle.cx_type_defs.specs.Tables.{body_at}
 use Rattle.cx_types.proofs.Extents.{class-extent, class-no_extent}
 use Rattle.cx_types.proofs.tables.Types.class_extent.Goals as goal
 

@@ -1,4 +1,4 @@
-use Rattle.cx_types.specs.Questions.{extent_of}
+use Rattle.cx_type_defs.specs.Questions.{extent_of}
 use Rattle.cx_types.proofs.Rows.{open-asked}
 use Rattle.cx_types.proofs.Closing.{type-told}
 use Rattle.cx_types.proofs.tables.Types.complete_measure.Goals as goal

@@ -1,5 +1,5 @@
 use Rattle.std.proofs.Common.{sym}
-use Rattle.cx_types.specs.Questions.{extent_of}
+use Rattle.cx_type_defs.specs.Questions.{extent_of}
 use Rattle.cx_types.proofs.Rows.{open-asked}
 use Rattle.cx_types.proofs.tables.Types.extent.Goals as goal
 

@@ -1,6 +1,6 @@
 use Rattle.std.proofs.Common.{List, [], ◌∷◌, ◌++◌, take, sym, ap, subst, ◌∙◌}
 use Rattle.std.proofs.lemmas.List.{take_more}
-use Rattle.cx_types.specs.declared.decl.Field.{Field}
+use Rattle.cx_type_defs.specs.declared.decl.Field.{Field}
 use Rattle.cx_types.specs.declared.facts.Measure.{Measure}
 use Rattle.cx_types.specs.Parts.{PartsTold, part_of_field}
 use Rattle.cx_types.proofs.Closing.{PartsTold-push}

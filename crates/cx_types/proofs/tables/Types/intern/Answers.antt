@@ -1,7 +1,7 @@
 use Rattle.std.proofs.Common.{◌≡◌, ℕ, [], ◌∷◌, ◌++◌, sym, subst, arith}
-use Rattle.cx_types.specs.Tables.{Tables, IsKnown}
+use Rattle.cx_type_defs.specs.Tables.{Tables, IsKnown}
 use Rattle.cx_types.specs.Kept.{MayCome}
-use Rattle.cx_types.proofs.Coming.{Kept-row}
+use Rattle.cx_types.proofs.Whole.{All-row}
 use Rattle.cx_types.proofs.tables.Types.intern.Goals as goal
 
 pub invariant_of-self-then-fresh : goal.invariant_of-self-then-fresh
@@ -10,4 +10,4 @@ invariant_of-self-then-fresh c =
     let known = subst (λ (t : Tables). IsKnown t c.args.row.kind) (sym c.self.view_is) c.requires.known in
     let view = subst (λ (t : Tables). MayCome t (record { 0 = c.len.result }) c.args.row.kind c.in_ok-facts.facts) (sym c.self.view_is) c.in_ok-facts.ensures.1 in
     let may = subst (λ (n : ℕ). MayCome (record { rows = c.self.inside.rows; classes = c.self.inside.classes.items; enums = c.self.inside.enums.items }) (record { 0 = n }) c.args.row.kind c.in_ok-facts.facts) c.len.ensures view in
-    rw (c.in-Ok-add.ensures.fresh c.if-fresh.true, pushed) (Kept-row _ c.args.row c.in_ok-facts.facts _ _ known may c.self.invariant)
+    rw (c.in-Ok-add.ensures.fresh c.if-fresh.true, pushed) (All-row _ c.args.row c.in_ok-facts.facts _ _ _ known may c.self.invariant)

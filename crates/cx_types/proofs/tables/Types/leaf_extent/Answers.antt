@@ -1,6 +1,6 @@
 use Rattle.std.proofs.Common.{Some, sym, ap, ◌∙◌}
-use Rattle.cx_types.specs.declared.kind.TypeKind.TheVariants as kind
-use Rattle.cx_types.specs.Questions.{extent_of, bytes}
+use Rattle.cx_type_defs.specs.declared.kind.TypeKind.TheVariants as kind
+use Rattle.cx_type_defs.specs.Questions.{extent_of, bytes}
 use Rattle.cx_types.proofs.Rows.{asked-type_class}
 use Rattle.cx_types.proofs.Extents.{leaf-at, leaf-pointer, leaf-reference}
 use Rattle.cx_types.proofs.tables.Types.leaf_extent.Goals as goal

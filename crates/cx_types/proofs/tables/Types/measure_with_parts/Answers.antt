@@ -1,5 +1,5 @@
 use Rattle.std.proofs.Common.{inr}
-use Rattle.cx_types.specs.Questions.{OfClass}
+use Rattle.cx_type_defs.specs.Questions.{OfClass}
 use Rattle.cx_types.specs.Parts.{part_of_field}
 use Rattle.cx_types.proofs.Closing.{parts-good, refusal-large, refusal-none, body-told}
 use Rattle.cx_types.proofs.tables.Types.measure_with_parts.Goals as goal

@@ -1,0 +1,11 @@
+pub mod Objects
+pub mod Places
+pub mod Conditions
+pub mod Steps
+pub mod Pointers
+pub mod Counts
+pub mod Forms
+pub mod States
+pub mod Elsewhere
+pub mod FirstRule
+pub mod Ways

@@ -1,0 +1,75 @@
+-- The equations of a question that is asked of the tables.
+use Rattle.std.proofs.Common.{◌≡◌, ℕ, suc, ◌≤◌, Option, None, Some, refl, sym, ap, subst, ◌∙◌, slice_get}
+use Rattle.std.specs.Prelude.{option_and_then}
+use Rattle.cx_type_defs.specs.declared.ids.TypeId.{TypeId}
+use Rattle.cx_type_defs.specs.declared.ids.ClassId.{ClassId}
+use Rattle.cx_type_defs.specs.declared.kind.TypeRow.{TypeRow}
+use Rattle.cx_type_defs.specs.declared.kind.TypeKind.TheVariants as kind
+use Rattle.cx_type_defs.specs.declared.decl.ClassDecl.{ClassDecl}
+use Rattle.cx_type_defs.specs.declared.decl.ClassBody.{ClassBody}
+use Rattle.cx_type_defs.specs.declared.decl.ClassKey.{ClassKey}
+use Rattle.cx_type_defs.specs.Tables.{Tables, Grows, body_at}
+use Rattle.cx_type_defs.specs.Questions.{Question, Part, OfType, OfClass, body_answer, class_answer, kind_answer, part_answer, looked, most_levels, asked, depth_of}
+use Rattle.cx_type_defs.proofs.Levels.{looked-depth, looked-opens, looked-row, looked-body}
+
+most_levels-suc : most_levels ≡ suc 511
+unfolding most_levels
+most_levels-suc = refl
+
+most_levels-is : most_levels ≡ 512
+unfolding most_levels
+most_levels-is = refl
+
+pub asked-depth : (t : Tables) (p : Part) (d : ℕ) → asked depth_of t p ≡ Some d → (1 ≤ d) × (d ≤ 512)
+unfolding asked
+asked-depth t p d e = let l = looked-depth t most_levels p d e in (l.0, subst (λ n. d ≤ n) most_levels-is l.1)
+
+-- a question answers a part by its answers for the parts below, where the part's depth is known
+pub asked-opens : {R : Type 0} (q : Question R) (t : Tables) (p : Part) (d : ℕ) → asked depth_of t p ≡ Some d → asked q t p ≡ part_answer q t (asked q t) p
+unfolding asked
+asked-opens q t p d e =
+    let P : ℕ → Type 0 = λ n. looked depth_of t n p ≡ Some d → looked q t n p ≡ part_answer q t (looked q t n) p in
+    subst P (sym most_levels-suc) (looked-opens q t 511 p d) e
+
+-- a row that came in is answered as one of its form was before, if that isn't too deep
+pub asked-row : {R : Type 0} (q : Question R) (t u : Tables) → Grows t u → (id : TypeId) (row : TypeRow) → slice_get u.rows id.0 ≡ Some row
+    → (d : ℕ) → kind_answer depth_of t (asked depth_of t) row.kind ≡ Some d → d ≤ 512
+    → (r : R) → kind_answer q t (asked q t) row.kind ≡ Some r → asked q u (OfType id) ≡ Some r
+unfolding asked
+asked-row q t u grows id row at d ed le r e =
+    let P : ℕ → Type 0 = λ n. kind_answer depth_of t (looked depth_of t n) row.kind ≡ Some d → d ≤ n → kind_answer q t (looked q t n) row.kind ≡ Some r → looked q u n (OfType id) ≡ Some r in
+    subst P (sym most_levels-suc) (λ x y z. looked-row q t u grows 511 id row at d x y r z) ed (subst (λ n. d ≤ n) (sym most_levels-is) le) e
+
+pub asked-body : {R : Type 0} (q : Question R) (t u : Tables) → Grows t u → (c : ClassId) (k : ClassKey) (b : ClassBody)
+    → ((R : Type 0) (q : Question R) (below : Part → Option R) → class_answer q below (slice_get u.classes c.0) ≡ body_answer q below k b)
+    → (d : ℕ) → body_answer depth_of (asked depth_of t) k b ≡ Some d → d ≤ 512
+    → (r : R) → body_answer q (asked q t) k b ≡ Some r → asked q u (OfClass c) ≡ Some r
+unfolding asked
+asked-body q t u grows c k b at d ed le r e =
+    let P : ℕ → Type 0 = λ n. body_answer depth_of (looked depth_of t n) k b ≡ Some d → d ≤ n → body_answer q (looked q t n) k b ≡ Some r → looked q u n (OfClass c) ≡ Some r in
+    subst P (sym most_levels-suc) (λ x y z. looked-body q t u grows 511 c k b at d x y r z) ed (subst (λ n. d ≤ n) (sym most_levels-is) le) e
+
+-- what one level below the top is answered
+unfoldable pub under : {R : Type 0} → Question R → Tables → Part → Option R
+under q t = looked q t 511
+
+pub asked-kind : {R : Type 0} (q : Question R) (t : Tables) (id : TypeId) (row : TypeRow) → slice_get t.rows id.0 ≡ Some row → asked q t (OfType id) ≡ kind_answer q t (under q t) row.kind
+unfolding asked under looked
+asked-kind q t id row e =
+    let P : ℕ → Type 0 = λ n. looked q t n (OfType id) ≡ kind_answer q t (looked q t 511) row.kind in
+    subst P (sym most_levels-suc) (ap (option_and_then (λ (r : TypeRow). kind_answer q t (looked q t 511) r.kind)) e)
+
+-- a type that is a class is asked what the class is asked
+pub asked-class : {R : Type 0} (q : Question R) (t : Tables) (c : ClassId) → asked q t (OfClass c) ≡ kind_answer q t (under q t) (kind.Class c)
+unfolding asked under looked
+asked-class q t c =
+    let P : ℕ → Type 0 = λ n. looked q t n (OfClass c) ≡ class_answer q (looked q t 511) (slice_get t.classes c.0) in
+    subst P (sym most_levels-suc) refl
+
+-- an incomplete class is asked in vain
+pub no-body : {R : Type 0} (q : Question R) (f : Part → Option R) (o : Option ClassDecl) → option_and_then (λ (d : ClassDecl). d.body) o ≡ None → class_answer q f o ≡ None
+no-body q f None e = refl
+no-body q f (Some d) e = ap (option_and_then (body_answer q f d.key)) e
+
+pub asked-incomplete : {R : Type 0} (q : Question R) (t : Tables) (c : ClassId) → body_at t c ≡ None → asked q t (OfClass c) ≡ None
+asked-incomplete q t c e = asked-class q t c ∙ no-body q (under q t) (slice_get t.classes c.0) e

@@ -1,0 +1,5 @@
+pub mod Tables
+pub mod Questions
+pub mod Slots
+pub mod Refusals
+pub mod Enums
