@@ -1,0 +1,9 @@
+use Rattle.std.proofs.Common.{◌≡◌, true, refl}
+use Rattle.cx_syntax.specs.declared.class.Class.{Class}
+use Rattle.cx_syntax.specs.Sets.{starts_clause}
+use Rattle.cx_ahead.proofs.Sums.{◌▿◌, hit}
+use Rattle.cx_ahead.proofs.sets.StartsClauseTestLexeme.test.Goals as goal
+
+pub returns-in-Number : goal.returns-in-Number
+returns-in-Number c =
+    ((λ e. hit starts_clause refl e) ▿ (λ e. hit starts_clause refl e) ▿ (λ e. hit starts_clause refl e) ▿ (λ e. hit starts_clause refl e) ▿ (λ e. hit starts_clause refl e) ▿ (λ e. hit starts_clause refl e) ▿ (λ e. hit starts_clause refl e) ▿ (λ e. hit starts_clause refl e) ▿ (λ e. hit starts_clause refl e) ▿ (λ e. hit starts_clause refl e) ▿ (λ e. hit starts_clause refl e) ▿ (λ e. hit starts_clause refl e) ▿ (λ e. hit starts_clause refl e) ▿ (λ e. hit starts_clause refl e) ▿ (λ e. hit starts_clause refl e) ▿ (λ e. hit starts_clause refl e) ▿ (λ e. hit starts_clause refl e) ▿ (λ e. hit starts_clause refl e) ▿ (λ e. hit starts_clause refl e) ▿ (λ e. hit starts_clause refl e) ▿ (λ e. hit starts_clause refl e) ▿ (λ e. hit starts_clause refl e) ▿ (λ e. hit starts_clause refl e) ▿ (λ e. hit starts_clause refl e) ▿ (λ e. hit starts_clause refl e) ▿ (λ e. hit starts_clause refl e) ▿ (λ e. hit starts_clause refl e) ▿ (λ e. hit starts_clause refl e) ▿ (λ e. hit starts_clause refl e) ▿ (λ e. hit starts_clause refl e) ▿ (λ e. hit starts_clause refl e) ▿ (λ e. hit starts_clause refl e) ▿ (λ e. hit starts_clause refl e) ▿ (λ e. hit starts_clause refl e) ▿ (λ e. hit starts_clause refl e) ▿ (λ e. hit starts_clause refl e) ▿ (λ e. hit starts_clause refl e) ▿ (λ e. hit starts_clause refl e) ▿ (λ e. hit starts_clause refl e) ▿ (λ e. hit starts_clause refl e) ▿ (λ e. hit starts_clause refl e) ▿ (λ e. hit starts_clause refl e) ▿ (λ e. hit starts_clause refl e)) c.in-Number.is

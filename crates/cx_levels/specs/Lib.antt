@@ -1,0 +1,4 @@
+pub mod DeclLevels
+pub mod ExprLevels
+pub mod Levels
+pub mod StmtLevels

@@ -1,0 +1,4 @@
+pub mod Forms
+pub mod Contents
+pub mod Ways
+pub mod Kinds

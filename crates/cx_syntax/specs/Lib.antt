@@ -1,0 +1,9 @@
+pub mod Classes
+pub mod Sets
+pub mod Values
+pub mod Linked
+pub mod Grammar
+pub mod Ahead
+pub mod Readers
+pub mod Goes
+pub mod Symbols
