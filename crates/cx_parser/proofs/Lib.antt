@@ -1,0 +1,7 @@
+mod Chained
+mod Depth
+mod Lengths
+mod Links
+mod RuleLengths
+mod Short
+mod Whens

@@ -1,0 +1,6 @@
+use Rattle.cx_grammar.proofs.Answered.{begins_of}
+use Rattle.cx_syntax.proofs.Exact.{exactly_assign}
+use Rattle.cx_parser.proofs.levels.assign.Goals as goal
+
+pub returns-clause-begins : goal.returns-clause-begins
+returns-clause-begins c = begins_of (exactly_assign c.args.left) c.args.tokens.now c.assign_within.result c.assign_within.new.tokens c.assign_within.ensures

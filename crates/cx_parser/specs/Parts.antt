@@ -1,0 +1,123 @@
+-- What the functions read by the way.
+use Rattle.std.specs.Prelude.{ℕ, Bool, List, [], ◌∷◌, map, ◌++◌, Option, Some, None, if◌then◌else◌}
+use Rattle.cx_tree.specs.declared.names.Ident.{Ident}
+use Rattle.cx_tree.specs.declared.specifiers.Modifier.{Modifier}
+use Rattle.cx_tree.specs.declared.specifiers.SpecsType.{SpecsType}
+use Rattle.cx_tree.specs.declared.exprs.Expr.{Expr}
+use Rattle.cx_tree.specs.declared.exprs.Clause.{Clause}
+use Rattle.cx_tree.specs.declared.exprs.Given.{Given}
+use Rattle.cx_tree.specs.declared.exprs.More.{More}
+use Rattle.cx_tree.specs.declared.exprs.Operation.{Operation}
+use Rattle.cx_syntax.specs.declared.parts.Tail.{Tail}
+use Rattle.cx_grammar.specs.Language.{joined}
+use Rattle.cx_base.specs.declared.diag.Span.{Span}
+use Rattle.cx_tree.specs.declared.exprs.ExprKind.{ExprKind}
+use Rattle.cx_tree.specs.declared.exprs.ExprKind.TheVariants as e
+use Rattle.cx_tree.specs.declared.exprs.MoreKind.{MoreKind}
+use Rattle.cx_tree.specs.declared.exprs.New.{New}
+use Rattle.cx_syntax.specs.declared.parts.MemberPart.{MemberPart}
+use Rattle.cx_syntax.specs.declared.parts.MemberPart.TheVariants as part
+use Rattle.cx_grammar.specs.Exact.{Outcome}
+use Rattle.cx_syntax.specs.declared.class.Class.{Class}
+use Rattle.cx_syntax.specs.declared.class.Class.TheVariants as k
+use Rattle.cx_syntax.specs.declared.lexeme.Lexeme.{Lexeme}
+use Rattle.cx_grammar.specs.Sets.{of}
+use Rattle.cx_grammar.specs.Reading.{Reader, token, the, maybe_if, many_when, many_of, made, sees_two, such_of, guarded, ◌<$>◌, ◌>>◌, ◌⊳◌, ◌⊲◌}
+use Rattle.cx_syntax.specs.Classes.{class_at, is}
+use Rattle.cx_syntax.specs.Sets.{is_name, is_string, starts_typed, starts_assign, starts_clause, starts_given, starts_tail, starts_more, is_reach}
+use Rattle.cx_syntax.specs.Values.{pick, ident_of, text_of, is_specified, Turn, Operand, operation_of, last_open, name_of, member_of, reach_of, new_of, expr_of}
+use Rattle.cx_syntax.specs.Readers as r
+
+-- a name of a set
+abbrev pub ident_in : (Lexeme → Bool) → Reader Lexeme Ident
+ident_in p = token (λ t. if p t then Some (ident_of t) else None)
+
+-- a token that may be left out
+abbrev pub maybe_one : Class → Reader Lexeme (Option (Unit {0}))
+maybe_one c = maybe_if (is c) (the (is c))
+
+-- names with `::` behind each
+abbrev pub scopes : Reader Lexeme (List Ident)
+scopes = many_when (sees_two (of class_at is_name) (is k.ColonColon)) r.scope
+
+-- a string's text
+abbrev pub piece : Reader Lexeme (List ℕ)
+piece = token (pick is_string text_of)
+
+-- the type among specifiers, if it is there
+abbrev pub maybe_typed : Reader Lexeme (Option SpecsType)
+maybe_typed = maybe_if (of class_at starts_typed) r.typed
+
+-- specifiers, at least one
+abbrev pub specs_parts : Reader Lexeme (List Modifier × Option SpecsType)
+specs_parts = such_of is_specified r.specs_parts
+
+-- a part as often as the next token passes the test, behind the first ones
+abbrev pub more_behind : {A : Type 0} → (Lexeme → Bool) → Reader Lexeme A → List A → Reader Lexeme (List A)
+more_behind p read first ts = made (λ vs. first ++ vs) (many_of p read ts)
+
+-- arguments, perhaps none
+abbrev pub maybe_args : r.Readers → Reader Lexeme (Option (List Expr))
+maybe_args d = maybe_if (of class_at starts_assign) (r.args d)
+
+-- clauses, perhaps none
+abbrev pub maybe_clauses : r.Readers → Reader Lexeme (Option (List Clause))
+maybe_clauses d = maybe_if (of class_at starts_clause) (r.clauses_in d)
+
+-- strings, at least one
+abbrev pub pieces : Reader Lexeme (List (List ℕ))
+pieces = joined <$> (piece >> many_of (of class_at is_string) piece)
+
+-- the type or the expression of a `new` in brackets, if it is there
+abbrev pub maybe_bound : r.Readers → Reader Lexeme (Option Expr)
+maybe_bound d = maybe_if (is k.OpenBracket) (r.new_bound d)
+
+-- what an object is made from, if it is there
+abbrev pub maybe_given : r.Readers → Reader Lexeme (Option Given)
+maybe_given d = maybe_if (of class_at starts_given) (r.given d)
+
+-- what stands behind a chain, if it is there
+abbrev pub maybe_tail : r.Readers → Reader Lexeme (Option Tail)
+maybe_tail d = maybe_if (of class_at starts_tail) (r.tail d)
+
+abbrev pub maybe_choice : r.Readers → Reader Lexeme (Option (Expr × Expr))
+maybe_choice d = maybe_if (is k.Question) (r.choice d)
+
+-- what is thrown, if it is there
+abbrev pub maybe_thrown : r.Readers → Reader Lexeme (Option Expr)
+maybe_thrown d = maybe_if (of class_at starts_assign) (guarded d.room d.assign)
+
+-- `[]`, if it is there
+abbrev pub maybe_brackets : Reader Lexeme (Option (Unit {0}))
+maybe_brackets = maybe_if (is k.OpenBracket) (is k.OpenBracket ⊳ the (is k.CloseBracket))
+
+-- what stands behind a head
+abbrev pub mores : r.Readers → Reader Lexeme (List More)
+mores d = many_of (of class_at starts_more) (r.more d)
+
+-- the expressions behind the first
+abbrev pub others : r.Readers → Reader Lexeme (List Expr)
+others d = many_of (is k.Comma) (r.other d)
+
+-- what turns of a chain give, and whether the last operand ends in the type of a `new`
+abbrev pub operations : Bool → List Turn → List Operation × Bool
+operations open_new us = (map operation_of us, last_open open_new us)
+
+abbrev pub turned : r.Readers → ℕ → Bool → Reader Lexeme (List Operation × Bool)
+turned d p open_new ts = made (operations open_new) (r.turns d p (r.chain d p) open_new ts)
+
+-- a name that is an expression
+abbrev pub id_expression : Reader Lexeme ExprKind
+id_expression = name_of <$> (r.colons >> r.fname)
+
+-- what stands behind `.` or `->`
+abbrev pub member_part : Reader Lexeme MemberPart
+member_part = r.choose (r.just k.Tilde) (part.Destructor <$> (is k.Tilde ⊳ r.type_only ⊲ is k.OpenParen ⊲ is k.CloseParen)) (part.Name <$> r.fname)
+
+abbrev pub member : Reader Lexeme MoreKind
+member = member_of <$> (token (pick is_reach reach_of) >> member_part)
+
+-- a chain, from its first operand and what follows it
+abbrev pub chained_with : Operand → List Operation × Bool → Span → Operand
+chained_with first ([], open_new) s = first
+chained_with first (operation ∷ operations, open_new) s = (expr_of (e.Chain first.0 (operation ∷ operations), s), open_new)

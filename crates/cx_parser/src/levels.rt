@@ -1,0 +1,194 @@
+//! The rules with so many levels left.
+
+ghost use Rattle.std.specs.Prelude.{◌≡◌};
+ghost use Rattle.cx_grammar.specs.Answers.{Begins};
+ghost use Rattle.cx_grammar.specs.Reads.{Reads};
+ghost use Rattle.cx_syntax.specs.Goes.{goes_args, goes_assign};
+ghost use Rattle.cx_syntax.specs.Readers as spec;
+ghost use Rattle.cx_syntax.specs.Readers.{deeper};
+ghost use Rattle.cx_syntax.specs.Symbols as symbols;
+ghost use Rattle.cx_syntax.specs.Symbols.{after, nothing};
+
+use crate::grammar::Grammar;
+use cx_grammar::{Cursor, ParseStop};
+use cx_syntax::Lexeme;
+use cx_tree::{Braces, Expr};
+use sqlite_items::Boxed;
+use std::alloc::Global;
+
+/// How many levels deep expressions may nest ([implimits]).
+pub const LEVELS: usize = 512;
+
+#[cycle(levels)]
+fn expr_within(
+    alloc: Global,
+    tokens: &mut Cursor<'_, Lexeme>,
+    left: usize,
+) -> Result<Boxed<Expr>, ParseStop>
+    ensures { Reads (spec.expr (deeper left) tokens.old) result tokens.new }
+{
+    let grammar = Grammar {
+        alloc,
+        left,
+        expr: expr_within,
+        assign: assign_within,
+        cond: cond_within,
+        cast: cast_within,
+        unary: unary_within,
+        braces: braces_within,
+    };
+    grammar.expr(tokens)
+}
+
+#[cycle(levels)]
+fn assign_within(
+    alloc: Global,
+    tokens: &mut Cursor<'_, Lexeme>,
+    left: usize,
+) -> Result<Boxed<Expr>, ParseStop>
+    ensures { Reads (spec.assign (deeper left) tokens.old) result tokens.new }
+{
+    let grammar = Grammar {
+        alloc,
+        left,
+        expr: expr_within,
+        assign: assign_within,
+        cond: cond_within,
+        cast: cast_within,
+        unary: unary_within,
+        braces: braces_within,
+    };
+    grammar.assign(tokens)
+}
+
+#[cycle(levels)]
+fn cond_within(
+    alloc: Global,
+    tokens: &mut Cursor<'_, Lexeme>,
+    left: usize,
+) -> Result<Boxed<Expr>, ParseStop>
+    ensures { Reads (spec.cond (deeper left) tokens.old) result tokens.new }
+{
+    let grammar = Grammar {
+        alloc,
+        left,
+        expr: expr_within,
+        assign: assign_within,
+        cond: cond_within,
+        cast: cast_within,
+        unary: unary_within,
+        braces: braces_within,
+    };
+    grammar.cond(tokens)
+}
+
+#[cycle(levels)]
+fn cast_within(
+    alloc: Global,
+    tokens: &mut Cursor<'_, Lexeme>,
+    left: usize,
+) -> Result<(Boxed<Expr>, bool), ParseStop>
+    ensures { Reads (spec.cast (deeper left) tokens.old) result tokens.new }
+{
+    let grammar = Grammar {
+        alloc,
+        left,
+        expr: expr_within,
+        assign: assign_within,
+        cond: cond_within,
+        cast: cast_within,
+        unary: unary_within,
+        braces: braces_within,
+    };
+    grammar.cast(tokens)
+}
+
+#[cycle(levels)]
+fn unary_within(
+    alloc: Global,
+    tokens: &mut Cursor<'_, Lexeme>,
+    left: usize,
+) -> Result<(Boxed<Expr>, bool), ParseStop>
+    ensures { Reads (spec.unary (deeper left) tokens.old) result tokens.new }
+{
+    let grammar = Grammar {
+        alloc,
+        left,
+        expr: expr_within,
+        assign: assign_within,
+        cond: cond_within,
+        cast: cast_within,
+        unary: unary_within,
+        braces: braces_within,
+    };
+    grammar.unary(tokens)
+}
+
+#[cycle(levels)]
+fn braces_within(
+    alloc: Global,
+    tokens: &mut Cursor<'_, Lexeme>,
+    left: usize,
+) -> Result<Braces, ParseStop>
+    ensures { Reads (spec.braces (deeper left) tokens.old) result tokens.new }
+{
+    let grammar = Grammar {
+        alloc,
+        left,
+        expr: expr_within,
+        assign: assign_within,
+        cond: cond_within,
+        cast: cast_within,
+        unary: unary_within,
+        braces: braces_within,
+    };
+    grammar.braces(tokens)
+}
+
+/// An expression ([expr]) with so many levels left: the one tree of the tokens that it takes, or the first token with which they are the front of none.
+pub fn expr(
+    alloc: Global,
+    tokens: &mut Cursor<'_, Lexeme>,
+    left: usize,
+) -> Result<Boxed<Expr>, ParseStop>
+    ensures reads { Reads (spec.expr (deeper left) tokens.old) result tokens.new }
+    ensures begins { Begins symbols.expr (after goes_args) left tokens.old result tokens.new }
+{
+    expr_within(alloc, tokens, left)
+}
+
+/// An assignment expression ([expr.ass]) with so many levels left: the one tree of the tokens that it takes, or the first token with which they are the front of none.
+pub fn assign(
+    alloc: Global,
+    tokens: &mut Cursor<'_, Lexeme>,
+    left: usize,
+) -> Result<Boxed<Expr>, ParseStop>
+    ensures reads { Reads (spec.assign (deeper left) tokens.old) result tokens.new }
+    ensures begins { Begins symbols.assign (after goes_assign) left tokens.old result tokens.new }
+{
+    assign_within(alloc, tokens, left)
+}
+
+/// A conditional expression ([expr.cond]) with so many levels left: the one tree of the tokens that it takes, or the first token with which they are the front of none.
+pub fn cond(
+    alloc: Global,
+    tokens: &mut Cursor<'_, Lexeme>,
+    left: usize,
+) -> Result<Boxed<Expr>, ParseStop>
+    ensures reads { Reads (spec.cond (deeper left) tokens.old) result tokens.new }
+    ensures begins { Begins symbols.cond (after goes_assign) left tokens.old result tokens.new }
+{
+    cond_within(alloc, tokens, left)
+}
+
+/// Clauses in braces ([dcl.init.list]) with so many levels left: the one tree of the tokens that it takes, or the first token with which they are the front of none.
+pub fn braces(
+    alloc: Global,
+    tokens: &mut Cursor<'_, Lexeme>,
+    left: usize,
+) -> Result<Braces, ParseStop>
+    ensures reads { Reads (spec.braces (deeper left) tokens.old) result tokens.new }
+    ensures begins { Begins symbols.braces nothing left tokens.old result tokens.new }
+{
+    braces_within(alloc, tokens, left)
+}
