@@ -46,7 +46,8 @@ fn names_end(tokens: &[Lexeme]) -> Option<&[Lexeme]>
     }
 }
 
-fn qtype_end(tokens: &[Lexeme]) -> Option<&[Lexeme]>
+/// What is left behind a type's name with what it is qualified by, if they stand there.
+pub fn qtype_end(tokens: &[Lexeme]) -> Option<&[Lexeme]>
     ensures { option_map (λ t. t.now) result ≡ spec.qtype_end tokens.now }
 {
     if sees(&Class::ColonColon, tokens) {

@@ -9,7 +9,7 @@ mod sets;
 mod tests;
 mod values;
 
-pub use ahead::{behind, qtype_ahead, sees, type_ahead};
+pub use ahead::{behind, qtype_ahead, qtype_end, sees, type_ahead};
 pub use faults::{operand_fault, type_fault};
 pub use operators::Allowed;
 pub use sets::{

@@ -1,18 +1,8 @@
-//! Objects as trees of contents: the plain store, by which others are measured ([intro.object]).
+//! The plain store of objects, by which others are measured: trees of records ([intro.object]).
 #![tactic(auto)]
 
-mod check;
-mod make;
-mod parts;
-mod place;
-mod read;
-mod record;
-mod seal;
 mod store;
-mod walk;
-mod whole;
-mod write;
 
+pub use cx_records::{End, Place};
 pub use cx_store::{Birth, Kind, Phase, RootView, Scalar, Store, StoreAnswer, StoreMark};
-pub use place::{End, Place};
 pub use store::TreeStore;

@@ -53,7 +53,7 @@ use Rattle.cx_syntax.specs.Ahead.{name_fault}
 use Rattle.cx_syntax.specs.Sets.{is_operator_word, follows_name}
 use Rattle.cx_syntax.specs.Readers as r
 use Rattle.cx_syntax.specs.Readers.{choose, just}
-use Rattle.cx_parser.proofs.Lengths.{Keeps, Shrinks, Leaves, shortens_of, keeps_of, keeps_as, shrinks_as, keeps_both, shrinks_both, keeps_then, shrinks_token, shrinks_before, shrinks_behind, keeps_refuse, keeps_guarded, shrinks_guarded, keeps_if, shrinks_if, leaves_if, keeps_maybe, keeps_such, keeps_measured, shrinks_measured, keeps_many, keeps_upto, keeps_separated, keeps_trailed, keeps_names, keeps_links}
+use Rattle.cx_parser_names.proofs.Lengths.{Keeps, Shrinks, Leaves, shortens_of, keeps_of, keeps_as, shrinks_as, keeps_both, shrinks_both, keeps_then, shrinks_token, shrinks_before, shrinks_behind, keeps_refuse, keeps_guarded, shrinks_guarded, keeps_if, shrinks_if, leaves_if, keeps_maybe, keeps_such, keeps_measured, shrinks_measured, keeps_many, keeps_upto, keeps_separated, keeps_trailed, keeps_names, keeps_links}
 
 one : {A : Type 0} (f : Lexeme → Option A) → Keeps (token f)
 one f = keeps_of (shrinks_token f)

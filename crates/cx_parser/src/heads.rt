@@ -9,13 +9,12 @@ ghost use Rattle.cx_syntax.specs.Values as values;
 ghost use Rattle.cx_syntax.specs.Readers.{deeper};
 
 use crate::grammar::Grammar;
-use crate::names::{fname, is_there, maybe_one, piece, qtype};
-use crate::repeats::{Piece, read_more};
 use cx_ahead::{
     AnyCastWord, AnyString, AnyTypeWord, CastWordIn, Literal, LiteralIn, TypeWordIn, qtype_ahead,
 };
 use cx_base::{List, Span, Text};
 use cx_grammar::{Cursor, ParseStop};
+use cx_parser_names::{Piece, fname, is_there, maybe_one, piece, qtype, read_more};
 use cx_syntax::{Class, Lexeme, span_of};
 use cx_tree::{Braces, Expr, ExprKind};
 use sqlite_items::Boxed;

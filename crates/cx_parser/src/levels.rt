@@ -10,14 +10,31 @@ ghost use Rattle.cx_syntax.specs.Symbols as symbols;
 ghost use Rattle.cx_syntax.specs.Symbols.{after, nothing};
 
 use crate::grammar::Grammar;
+use cx_base::List;
 use cx_grammar::{Cursor, ParseStop};
 use cx_syntax::Lexeme;
-use cx_tree::{Braces, Expr};
+use cx_tree::{Args, Bound, Braces, Expr, Given, TypeId};
 use sqlite_items::Boxed;
 use std::alloc::Global;
 
 /// How many levels deep expressions may nest ([implimits]).
 pub const LEVELS: usize = 512;
+
+/// The rules over themselves one level deeper.
+macro_rules! rules {
+    ($alloc:expr, $left:expr) => {
+        Grammar {
+            alloc: $alloc,
+            left: $left,
+            expr: expr_within,
+            assign: assign_within,
+            cond: cond_within,
+            cast: cast_within,
+            unary: unary_within,
+            braces: braces_within,
+        }
+    };
+}
 
 #[cycle(levels)]
 fn expr_within(
@@ -27,17 +44,7 @@ fn expr_within(
 ) -> Result<Boxed<Expr>, ParseStop>
     ensures { Reads (spec.expr (deeper left) tokens.old) result tokens.new }
 {
-    let grammar = Grammar {
-        alloc,
-        left,
-        expr: expr_within,
-        assign: assign_within,
-        cond: cond_within,
-        cast: cast_within,
-        unary: unary_within,
-        braces: braces_within,
-    };
-    grammar.expr(tokens)
+    rules!(alloc, left).expr(tokens)
 }
 
 #[cycle(levels)]
@@ -48,17 +55,7 @@ fn assign_within(
 ) -> Result<Boxed<Expr>, ParseStop>
     ensures { Reads (spec.assign (deeper left) tokens.old) result tokens.new }
 {
-    let grammar = Grammar {
-        alloc,
-        left,
-        expr: expr_within,
-        assign: assign_within,
-        cond: cond_within,
-        cast: cast_within,
-        unary: unary_within,
-        braces: braces_within,
-    };
-    grammar.assign(tokens)
+    rules!(alloc, left).assign(tokens)
 }
 
 #[cycle(levels)]
@@ -69,17 +66,7 @@ fn cond_within(
 ) -> Result<Boxed<Expr>, ParseStop>
     ensures { Reads (spec.cond (deeper left) tokens.old) result tokens.new }
 {
-    let grammar = Grammar {
-        alloc,
-        left,
-        expr: expr_within,
-        assign: assign_within,
-        cond: cond_within,
-        cast: cast_within,
-        unary: unary_within,
-        braces: braces_within,
-    };
-    grammar.cond(tokens)
+    rules!(alloc, left).cond(tokens)
 }
 
 #[cycle(levels)]
@@ -90,17 +77,7 @@ fn cast_within(
 ) -> Result<(Boxed<Expr>, bool), ParseStop>
     ensures { Reads (spec.cast (deeper left) tokens.old) result tokens.new }
 {
-    let grammar = Grammar {
-        alloc,
-        left,
-        expr: expr_within,
-        assign: assign_within,
-        cond: cond_within,
-        cast: cast_within,
-        unary: unary_within,
-        braces: braces_within,
-    };
-    grammar.cast(tokens)
+    rules!(alloc, left).cast(tokens)
 }
 
 #[cycle(levels)]
@@ -111,17 +88,7 @@ fn unary_within(
 ) -> Result<(Boxed<Expr>, bool), ParseStop>
     ensures { Reads (spec.unary (deeper left) tokens.old) result tokens.new }
 {
-    let grammar = Grammar {
-        alloc,
-        left,
-        expr: expr_within,
-        assign: assign_within,
-        cond: cond_within,
-        cast: cast_within,
-        unary: unary_within,
-        braces: braces_within,
-    };
-    grammar.unary(tokens)
+    rules!(alloc, left).unary(tokens)
 }
 
 #[cycle(levels)]
@@ -132,17 +99,7 @@ fn braces_within(
 ) -> Result<Braces, ParseStop>
     ensures { Reads (spec.braces (deeper left) tokens.old) result tokens.new }
 {
-    let grammar = Grammar {
-        alloc,
-        left,
-        expr: expr_within,
-        assign: assign_within,
-        cond: cond_within,
-        cast: cast_within,
-        unary: unary_within,
-        braces: braces_within,
-    };
-    grammar.braces(tokens)
+    rules!(alloc, left).braces(tokens)
 }
 
 /// An expression ([expr]) with so many levels left: the one tree of the tokens that it takes, or the first token with which they are the front of none.
@@ -191,4 +148,48 @@ pub fn braces(
     ensures begins { Begins symbols.braces nothing left tokens.old result tokens.new }
 {
     braces_within(alloc, tokens, left)
+}
+
+/// A type without a name ([dcl.name]) with so many levels left.
+pub fn typeid(
+    alloc: Global,
+    tokens: &mut Cursor<'_, Lexeme>,
+    left: usize,
+) -> Result<Boxed<TypeId>, ParseStop>
+    ensures { Reads (spec.typeid (deeper left) tokens.old) result tokens.new }
+{
+    rules!(alloc, left).typeid(tokens)
+}
+
+/// Up to 16 bounds of arrays ([dcl.array]) with so many levels left.
+pub fn bounds(
+    alloc: Global,
+    tokens: &mut Cursor<'_, Lexeme>,
+    left: usize,
+) -> Result<List<Bound>, ParseStop>
+    ensures { Reads (spec.bounds (deeper left) tokens.old) result tokens.new }
+{
+    rules!(alloc, left).bounds(tokens)
+}
+
+/// Arguments in parentheses ([expr.call]) with so many levels left.
+pub fn paren_args(
+    alloc: Global,
+    tokens: &mut Cursor<'_, Lexeme>,
+    left: usize,
+) -> Result<Args, ParseStop>
+    ensures { Reads (spec.paren_args (deeper left) tokens.old) result tokens.new }
+{
+    rules!(alloc, left).paren_args(tokens)
+}
+
+/// What an object is made from ([dcl.init]) with so many levels left.
+pub fn given(
+    alloc: Global,
+    tokens: &mut Cursor<'_, Lexeme>,
+    left: usize,
+) -> Result<Given, ParseStop>
+    ensures { Reads (spec.given (deeper left) tokens.old) result tokens.new }
+{
+    rules!(alloc, left).given(tokens)
 }

@@ -8,10 +8,7 @@ mod grammar;
 mod heads;
 mod levels;
 mod lists;
-mod names;
 mod operands;
 mod postfix;
-mod repeats;
-mod specifiers;
 
-pub use levels::{LEVELS, assign, braces, cond, expr};
+pub use levels::{LEVELS, assign, bounds, braces, cond, expr, given, paren_args, typeid};

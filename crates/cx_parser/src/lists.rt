@@ -8,11 +8,10 @@ ghost use Rattle.cx_syntax.specs.Readers as spec;
 ghost use Rattle.cx_syntax.specs.Readers.{deeper};
 
 use crate::grammar::Grammar;
-use crate::repeats::{or_none, read_more};
-use crate::specifiers::{ptrs, specs};
 use cx_ahead::{StartsAssign, StartsClause, StartsUnary};
 use cx_base::List;
 use cx_grammar::{Cursor, ParseStop, Part, read_others, read_upto};
+use cx_parser_names::{or_none, ptrs, read_more, specs};
 use cx_syntax::{Class, Lexeme, span_of};
 use cx_tree::{Args, Bound, Braces, Clause, Expr, Given, TypeId};
 use sqlite_items::Boxed;

@@ -10,12 +10,11 @@ ghost use Rattle.cx_syntax.specs.Readers.{deeper};
 
 use crate::grammar::Grammar;
 use crate::heads::node;
-use crate::names::is_there;
-use crate::specifiers::{specs, stars};
 use cx_ahead::{
     AnyPrefix, PrefixOpIn, StartsGiven, behind, operand_fault, sees, type_ahead, type_fault,
 };
 use cx_grammar::{Cursor, ParseStop};
+use cx_parser_names::{is_there, specs, stars};
 use cx_syntax::{Class, Lexeme, span_of};
 use cx_tree::{Braces, Expr, ExprKind, Given, New};
 use sqlite_items::Boxed;

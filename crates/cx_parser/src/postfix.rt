@@ -10,10 +10,10 @@ ghost use Rattle.cx_syntax.specs.Readers.{deeper};
 
 use crate::grammar::Grammar;
 use crate::heads::node;
-use crate::names::{fname, ident};
 use cx_ahead::{ReachIn, StartsMore, Step, StepIn, Type};
 use cx_base::{List, Span};
 use cx_grammar::{Cursor, ParseStop, Part, read_many};
+use cx_parser_names::{fname, ident};
 use cx_syntax::{Class, Lexeme, MemberPart, span_of};
 use cx_tree::{Braces, Expr, ExprKind, More, MoreKind, Reach};
 use sqlite_items::Boxed;
@@ -122,7 +122,7 @@ impl<
     }
 
     #[inline(never)]
-    fn mores(&self, tokens: &mut Cursor<'_, Lexeme>) -> Result<List<More>, ParseStop>
+    pub fn mores(&self, tokens: &mut Cursor<'_, Lexeme>) -> Result<List<More>, ParseStop>
         requires below { Below self.now.left (E.pre self.now.expr) (E.post self.now.expr) (A.pre self.now.assign) (A.post self.now.assign) (D.pre self.now.cond) (D.post self.now.cond) (C.pre self.now.cast) (C.post self.now.cast) (U.pre self.now.unary) (U.post self.now.unary) (B.pre self.now.braces) (B.post self.now.braces) }
         ensures { Reads (parts.mores (deeper self.now.left) tokens.old) result tokens.new }
     {

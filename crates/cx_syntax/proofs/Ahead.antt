@@ -27,12 +27,12 @@ pub data Told {B C : Type 0} (ahead : Option (List Lexeme)) (a : Outcome Lexeme 
   is_type_name : (rest : List Lexeme) (v : B) → ahead ≡ Some rest → a ≡ done v rest → b ≡ stop Syntax (length rest) → Told ahead a b
   is_none : (left : ℕ) → ahead ≡ None → a ≡ stop Syntax left → reach b ≤ left → Told ahead a b
 
-told_same : {B C : Type 0} {e e' : Option (List Lexeme)} {a a' : Outcome Lexeme B} {b b' : Outcome Lexeme C} → e ≡ e' → a ≡ a' → b ≡ b' → Told e' a' b' → Told e a b
+pub told_same : {B C : Type 0} {e e' : Option (List Lexeme)} {a a' : Outcome Lexeme B} {b b' : Outcome Lexeme C} → e ≡ e' → a ≡ a' → b ≡ b' → Told e' a' b' → Told e a b
 told_same p q s (is_type_name rest v x y z) = is_type_name rest v (p ∙ x) (q ∙ y) (s ∙ z)
 told_same p q s (is_none left x y z) = is_none left (p ∙ x) (q ∙ y) (let m : ℕ → Type 0 = λ n. n ≤ left in subst m (ap reach (sym s)) z)
 
 -- what is made of both
-told_lift : {B B' C C' : Type 0} {e : Option (List Lexeme)} {a : Outcome Lexeme B} {b : Outcome Lexeme C} (F : Outcome Lexeme B → Outcome Lexeme B') (G : Outcome Lexeme C → Outcome Lexeme C')
+pub told_lift : {B B' C C' : Type 0} {e : Option (List Lexeme)} {a : Outcome Lexeme B} {b : Outcome Lexeme C} (F : Outcome Lexeme B → Outcome Lexeme B') (G : Outcome Lexeme C → Outcome Lexeme C')
     → ((v : B) (rest : List Lexeme) → (w : B') × (F (done v rest) ≡ done w rest)) → ((left : ℕ) → F (stop Syntax left) ≡ stop Syntax left) → ((left : ℕ) → G (stop Syntax left) ≡ stop Syntax left) → ((o : Outcome Lexeme C) → reach (G o) ≡ reach o)
     → Told e a b → Told e (F a) (G b)
 told_lift F G f f' g' h (is_type_name rest v x y z) = let w = f v rest in is_type_name rest w.0 x (ap F y ∙ w.1) (ap G z ∙ g' (length rest))
@@ -40,10 +40,10 @@ told_lift {b = b} F G f f' g' h (is_none left x y z) = is_none left x (ap F y �
 
 -- ---- the last name
 
-abbrev type_end : Bool → Bool → Lexeme → List Lexeme → Outcome Lexeme Ident
+abbrev pub type_end : Bool → Bool → Lexeme → List Lexeme → Outcome Lexeme Ident
 type_end b c t rest = if c && not b then refuse rest else token_by (if b then Some (ident_of t) else None) t rest
 
-abbrev name_end : Bool → Bool → Lexeme → List Lexeme → Outcome Lexeme Last
+abbrev pub name_end : Bool → Bool → Lexeme → List Lexeme → Outcome Lexeme Last
 name_end b c t rest = if c && not b then refuse rest else r.last_part (t ∷ rest)
 
 pub reach_last : (t : Lexeme) (rest : List Lexeme) → reach (r.last_part (t ∷ rest)) ≤ length (t ∷ rest)
@@ -57,7 +57,7 @@ pub id_read : (t : Lexeme) (rest : List Lexeme) → is_id t.class ≡ true → r
 unfolding r.last_part
 id_read t rest e = ap (λ b. reach (if b then made last.Ident (token_by (if b then Some (ident_of t) else None) t rest) else (last.Operator <$> (is k.Operator ⊳ r.op)) (t ∷ rest))) e
 
-told_last : (t : Lexeme) (rest : List Lexeme) (b c : Bool) → is_type t.class ≡ b → is_name t.class ≡ c
+pub told_last : (t : Lexeme) (rest : List Lexeme) (b c : Bool) → is_type t.class ≡ b → is_name t.class ≡ c
     → Told (bare_end (is_type t.class) rest) (type_end (is_type t.class) (is_name t.class) t rest) (name_end (starts_last t.class) (is_name t.class) t rest)
 told_last t rest true c p q =
     let named = sub is_type is_name refl t p in
@@ -85,12 +85,12 @@ type_behind ts = last_name (at is_name) (at is_type) r.type_only ts
 abbrev pub name_behind : List Lexeme → Outcome Lexeme Last
 name_behind ts = last_name (at is_name) (at starts_last) r.last_part ts
 
-no_name_end : reach (r.last_part []) ≡ 0
+pub no_name_end : reach (r.last_part []) ≡ 0
 unfolding r.last_part
 no_name_end = refl
 
 -- no name with `::` behind it comes next
-told_end : (ts : List Lexeme) → two ts ≡ false → Told (names_end ts) (type_behind ts) (name_behind ts)
+pub told_end : (ts : List Lexeme) → two ts ≡ false → Told (names_end ts) (type_behind ts) (name_behind ts)
 told_end [] e = is_none 0 refl refl (let z = no_name_end in omega arith)
 told_end (t ∷ []) e = told_last t [] (is_type t.class) (is_name t.class) refl refl
 told_end (t ∷ u ∷ rest) e = told_same (ap (λ b. if b then names_end rest else bare_end (is_type t.class) (u ∷ rest)) e) refl refl (told_last t (u ∷ rest) (is_type t.class) (is_name t.class) refl refl)
@@ -100,7 +100,7 @@ told_end (t ∷ u ∷ rest) e = told_same (ap (λ b. if b then names_end rest el
 abbrev pub scopes_then : {B : Type 0} → Reader Lexeme B → ℕ → List Lexeme → Outcome Lexeme (List Ident × B)
 scopes_then after n ts = many_from two r.scope n ts >>= (λ vs rest. made (λ b. (vs, b)) (after rest))
 
-scope_read : (t u : Lexeme) (rest : List Lexeme) → is_name t.class ≡ true → is k.ColonColon u ≡ true → r.scope (t ∷ u ∷ rest) ≡ done (ident_of t) rest
+pub scope_read : (t u : Lexeme) (rest : List Lexeme) → is_name t.class ≡ true → is k.ColonColon u ≡ true → r.scope (t ∷ u ∷ rest) ≡ done (ident_of t) rest
 scope_read t u rest p q = ap (λ b. made (λ (v : Ident × Unit {0}). v.0) (token_by (if b then Some (ident_of t) else None) t (u ∷ rest) >>= (λ a more. made (λ w. (a, w)) (token (passing (is k.ColonColon)) more)))) p
     ∙ ap (λ c. made (λ (v : Ident × Unit {0}). v.0) (made (λ w. (ident_of t, w)) (token_by (if c then Some tt else None) u rest))) q
 
@@ -127,24 +127,24 @@ pub reach_made : {B C : Type 0} (f : B → C) (o : Outcome Lexeme B) → reach (
 reach_made f (done v rest) = refl
 reach_made f (stop rule left) = refl
 
-told_made : {B B' C C' : Type 0} {e : Option (List Lexeme)} {a : Outcome Lexeme B} {b : Outcome Lexeme C} (f : B → B') (g : C → C') → Told e a b → Told e (made f a) (made g b)
+pub told_made : {B B' C C' : Type 0} {e : Option (List Lexeme)} {a : Outcome Lexeme B} {b : Outcome Lexeme C} (f : B → B') (g : C → C') → Told e a b → Told e (made f a) (made g b)
 told_made f g t = told_lift (made f) (made g) (λ v rest. (f v, refl)) (λ left. refl) (λ left. refl) (reach_made g) t
 
 pub no_second : (b : Bool) → (b && false) ≡ false
 no_second true = refl
 no_second false = refl
 
-abbrev ToldAt : ℕ → List Lexeme → Type 0
+abbrev pub ToldAt : ℕ → List Lexeme → Type 0
 ToldAt n ts = Told (names_end ts) (scopes_then type_behind n ts) (scopes_then name_behind n ts)
 
-told_by : (n : ℕ) (t u : Lexeme) (rest : List Lexeme) → ((m : ℕ) → n ≡ suc m → ToldAt m rest) → (b : Bool) → two (t ∷ u ∷ rest) ≡ b → length (t ∷ u ∷ rest) ≤ n → ToldAt n (t ∷ u ∷ rest)
+pub told_by : (n : ℕ) (t u : Lexeme) (rest : List Lexeme) → ((m : ℕ) → n ≡ suc m → ToldAt m rest) → (b : Bool) → two (t ∷ u ∷ rest) ≡ b → length (t ∷ u ∷ rest) ≤ n → ToldAt n (t ∷ u ∷ rest)
 told_by n t u rest again false e fits = told_same refl (scopes_end type_behind n (t ∷ u ∷ rest) e) (scopes_end name_behind n (t ∷ u ∷ rest) e) (told_made (λ b. ([], b)) (λ b. ([], b)) (told_end (t ∷ u ∷ rest) e))
 told_by zero t u rest again true e fits = let l = length-append (t ∷ []) (u ∷ rest) in absurd (omega arith)
 told_by (suc m) t u rest again true e fits = let p = and_first (is_name t.class) (is k.ColonColon u) e in let q = and_second (is_name t.class) (is k.ColonColon u) e in
     told_same (ap (λ b. if b then names_end rest else bare_end (is_type t.class) (u ∷ rest)) e) (scope_step type_behind m t u rest e p q) (scope_step name_behind m t u rest e p q)
     (told_made (on_name (ident_of t)) (on_name (ident_of t)) (again m refl))
 
-told_scopes : (n : ℕ) (ts : List Lexeme) → length ts ≤ n → Told (names_end ts) (scopes_then type_behind n ts) (scopes_then name_behind n ts)
+pub told_scopes : (n : ℕ) (ts : List Lexeme) → length ts ≤ n → Told (names_end ts) (scopes_then type_behind n ts) (scopes_then name_behind n ts)
 told_scopes n [] fits = told_same refl (scopes_end type_behind n [] refl) (scopes_end name_behind n [] refl) (told_made (λ b. ([], b)) (λ b. ([], b)) (told_end [] refl))
 told_scopes n (t ∷ []) fits = let e : two (t ∷ []) ≡ false = no_second (is_name t.class) in
     told_same refl (scopes_end type_behind n (t ∷ []) e) (scopes_end name_behind n (t ∷ []) e) (told_made (λ b. ([], b)) (λ b. ([], b)) (told_end (t ∷ []) e))
@@ -162,14 +162,14 @@ qtype_made ts c o = made type_name (made (λ b. (c, b)) o >>= (λ v rest. done (
 abbrev pub name_made : List Lexeme → Option (Unit {0}) → Outcome Lexeme (List Ident × Last) → Outcome Lexeme ExprKind
 name_made ts c o = made name_of (made (λ b. (c, b)) (made function_name (o >>= (λ v rest. done (v, span_of (taken ts rest)) rest))))
 
-abbrev colons_by : Bool → List Lexeme → Outcome Lexeme (Option (Unit {0}))
+abbrev pub colons_by : Bool → List Lexeme → Outcome Lexeme (Option (Unit {0}))
 colons_by b ts = if b then made Some (r.colon ts) else done None ts
 
 pub reach_name : (ts : List Lexeme) (c : Option (Unit {0})) (o : Outcome Lexeme (List Ident × Last)) → reach (name_made ts c o) ≡ reach o
 reach_name ts c (done v rest) = refl
 reach_name ts c (stop rule left) = refl
 
-told_both : (ts more : List Lexeme) (c : Option (Unit {0})) → Told (names_end more) (qtype_made ts c (r.type_names more)) (name_made more c (r.fname_parts more))
+pub told_both : (ts more : List Lexeme) (c : Option (Unit {0})) → Told (names_end more) (qtype_made ts c (r.type_names more)) (name_made more c (r.fname_parts more))
 told_both ts more c = told_lift (qtype_made ts c) (name_made more c) (λ v rest. (_, refl)) (λ left. refl) (λ left. refl) (reach_name more c) (told_names more)
 
 -- without `::`
@@ -192,7 +192,7 @@ unfolding r.id_expression r.fname
 name_global d t rest e = ap (λ b. made name_of (colons_by b (t ∷ rest) >>= (λ c more. made (λ v. (c, v)) (r.fname more)))) e
     ∙ ap (λ b. made name_of (made Some (token_by (if b then Some tt else None) t rest) >>= (λ c more. made (λ v. (c, v)) (r.fname more)))) e
 
-told_at : (d : r.Readers) (ts : List Lexeme) (b : Bool) → sees (is k.ColonColon) ts ≡ b → Told (qtype_end ts) (r.qtype ts) (r.id_expression d ts)
+pub told_at : (d : r.Readers) (ts : List Lexeme) (b : Bool) → sees (is k.ColonColon) ts ≡ b → Told (qtype_end ts) (r.qtype ts) (r.id_expression d ts)
 told_at d ts false e = told_same (ap (λ b. if b then names_end (tail_of ts) else names_end ts) e) (qtype_plain ts e) (name_plain d ts e) (told_both ts ts None)
 told_at d [] true e = cc
 told_at d (t ∷ rest) true e = told_same (ap (λ b. if b then names_end rest else names_end (t ∷ rest)) e) (qtype_global t rest e) (name_global d t rest e) (told_both (t ∷ rest) rest (Some tt))

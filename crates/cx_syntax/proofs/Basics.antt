@@ -33,7 +33,7 @@ both_true b c e f = ap (λ v. v && c) e ∙ f
 
 -- ---- one token
 
-chosen_true : {A : Type 0} (b : Bool) (x v : A) → (if b then Some x else None) ≡ Some v → b ≡ true
+pub chosen_true : {A : Type 0} (b : Bool) (x v : A) → (if b then Some x else None) ≡ Some v → b ≡ true
 chosen_true true x v e = refl
 chosen_true false x v e = cc
 
@@ -51,7 +51,7 @@ begun_pick set f t e = let p = pick_named set f t e in whole p.0 (record { token
 
 -- ---- a part that may be empty before one that is not
 
-no_back : {T : Type 0} (x y : List T) → [] ≡ x ++ y → [] ≡ y
+pub no_back : {T : Type 0} (x y : List T) → [] ≡ x ++ y → [] ≡ y
 no_back [] y e = e
 no_back (t ∷ x) y e = cc
 
@@ -66,16 +66,16 @@ heads_after {T = T} {H = H} g blank h = let both = opens_both g (opens h) in rec
 -- ---- so many parts at most
 
 module _ {T A : Type 0} {G : Family T A} {p : T → Bool} (h : Heads G p) where
-  turn_head : (n : ℕ) (t : T) (x f b : List T) (v : A) → t ∷ x ≡ f ++ b → (G n).spells f v → p t ≡ true
+  pub turn_head : (n : ℕ) (t : T) (x f b : List T) (v : A) → t ∷ x ≡ f ++ b → (G n).spells f v → p t ≡ true
   turn_head n t x [] b v e s = absurd (h.full n v s)
   turn_head n t x (u ∷ f) b v e s = let heads : u ≡ t = cc in subst (λ z. p z ≡ true) heads (h.spells n u f v s)
 
-  upto_spells : (most n : ℕ) (t : T) (x : List T) (w : List A) → (upto most (G n)).spells (t ∷ x) w → p t ≡ true
+  pub upto_spells : (most n : ℕ) (t : T) (x : List T) (w : List A) → (upto most (G n)).spells (t ∷ x) w → p t ≡ true
   upto_spells zero n t x w s = let none = s.part in cc
   upto_spells (suc most) n t x w (inl s) = turn_head n t x s.part.front s.part.back s.value.0 s.part.cut s.part.first
   upto_spells (suc most) n t x w (inr s) = let none = s.part in cc
 
-  upto_begins : (most n : ℕ) (t : T) (x : List T) → (upto most (G n)).begins (t ∷ x) → p t ≡ true
+  pub upto_begins : (most n : ℕ) (t : T) (x : List T) → (upto most (G n)).begins (t ∷ x) → p t ≡ true
   upto_begins zero n t x b = cc
   upto_begins (suc most) n t x (inl (in_first b)) = (heads_present h).begins n t x b
   upto_begins (suc most) n t x (inl (in_second f k v cut s b)) = turn_head n t x f k v cut s
@@ -109,14 +109,14 @@ unseen p q a (t ∷ ts) e = false_of (q t.class) (λ h. a t e h)
 module _ {A : Type 0} {G H : Family Lexeme A} {go : A → Lexeme → Bool} (p q : Class → Bool) {left : ℕ} {r s : Reader Lexeme A} (e : (variants enum).each (λ c. not (p c && q c)) ≡ true) (hg : Heads G (at p)) (hh : Heads H (at q))
     (g : ExactlyAt (at p) (λ n. present (G n)) go left r) (h : Exactly (λ n. present (H n)) go left s)
   where
-    choice_at : (ts : List Lexeme) (b : Bool) → sees (at p) ts ≡ b → Right (λ n. G n ∥ H n) go left ts (if b then r ts else s ts)
+    pub choice_at : (ts : List Lexeme) (b : Bool) → sees (at p) ts ≡ b → Right (λ n. G n ∥ H n) go left ts (if b then r ts else s ts)
     choice_at ts true seen = first_of_two (record { exact = g.at ts seen }) hh (unseen p q (apart p q e) ts seen)
     choice_at ts false not_seen = second_of_two hg not_seen (right_of h ts)
 
     pub exactly_choice : Exactly (λ n. G n ∥ H n) go left (choose p r s)
     exactly_choice = record { at = λ ts. (choice_at ts (sees (at p) ts) refl).exact }
 
-choose_by : {A : Type 0} (b c : Bool) (r s : Reader Lexeme A) (ts : List Lexeme) → b ≡ c → (if b then r ts else s ts) ≡ (if c then r ts else s ts)
+pub choose_by : {A : Type 0} (b c : Bool) (r s : Reader Lexeme A) (ts : List Lexeme) → b ≡ c → (if b then r ts else s ts) ≡ (if c then r ts else s ts)
 choose_by b c r s ts e = ap (λ d. if d then r ts else s ts) e
 
 pub choose_first : {A : Type 0} (p : Class → Bool) (r s : Reader Lexeme A) (ts : List Lexeme) → sees (at p) ts ≡ true → choose p r s ts ≡ r ts

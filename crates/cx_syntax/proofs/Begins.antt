@@ -20,17 +20,17 @@ or_begins false c e f h = inr (h e)
 
 -- ---- names
 
-begins_scopes : (t : Lexeme) → at is_name t ≡ true → (many (one (pick is_name ident_of) ⊲ is k.ColonColon)).begins (t ∷ [])
+pub begins_scopes : (t : Lexeme) → at is_name t ≡ true → (many (one (pick is_name ident_of) ⊲ is k.ColonColon)).begins (t ∷ [])
 begins_scopes t e = record { front = []; back = t ∷ []; cut = refl; turns = []; whole = refl; next = some refl (in_first (begun_pick is_name ident_of t e)) }
 
 pub begins_fname : (t : Lexeme) (b : Bool) → (is_name t.class) ≡ b → at (λ c. is_name c || just k.Operator c) t ≡ true → g.fname.begins (t ∷ [])
 begins_fname t true e h = in_first (begins_scopes t e)
 begins_fname t false e h = in_second [] (t ∷ []) [] refl refl (inr (some refl (begun_by (λ m. g.op) (is k.Operator) t (ap (λ b. b || just k.Operator t.class) (sym e) ∙ h) 0)))
 
-begun_colons : (t : Lexeme) → is k.ColonColon t ≡ true → (the (is k.ColonColon)).begins (t ∷ [])
+pub begun_colons : (t : Lexeme) → is k.ColonColon t ≡ true → (the (is k.ColonColon)).begins (t ∷ [])
 begun_colons t e = whole tt (record { token = t; alone = refl; fits = ap (λ b. if b then Some tt else None) e })
 
-begins_id : (t : Lexeme) (n : ℕ) (b : Bool) → just k.ColonColon t.class ≡ b → at starts_id_expression t ≡ true → (g.id_expression (g.deeper n)).begins (t ∷ [])
+pub begins_id : (t : Lexeme) (n : ℕ) (b : Bool) → just k.ColonColon t.class ≡ b → at starts_id_expression t ≡ true → (g.id_expression (g.deeper n)).begins (t ∷ [])
 unfolding same_class
 begins_id t n true e h = in_first (inr (some refl (begun_colons t e)))
 begins_id t n false e h = in_second [] (t ∷ []) None refl (inl (record { value = tt; made = refl; part = refl })) (begins_fname t (is_name t.class) refl
@@ -42,19 +42,19 @@ begins_id_expression t n h = begins_id t n (just k.ColonColon t.class) refl h
 -- ---- heads
 
 module _ (t : Lexeme) (n : ℕ) where
-  begins_named_head : at starts_named_head t ≡ true → (g.id_expression (g.deeper (suc n)) ∥ g.type_made (g.deeper (suc n))).begins (t ∷ [])
+  pub begins_named_head : at starts_named_head t ≡ true → (g.id_expression (g.deeper (suc n)) ∥ g.type_made (g.deeper (suc n))).begins (t ∷ [])
   begins_named_head h = inl (some refl (begins_id_expression t (suc n) (sub starts_named_head starts_id_expression refl t h)))
 
-  begins_made : at starts_made t ≡ true → (g.word_made (g.deeper (suc n)) ∥ g.id_expression (g.deeper (suc n)) ∥ g.type_made (g.deeper (suc n))).begins (t ∷ [])
+  pub begins_made : at starts_made t ≡ true → (g.word_made (g.deeper (suc n)) ∥ g.id_expression (g.deeper (suc n)) ∥ g.type_made (g.deeper (suc n))).begins (t ∷ [])
   begins_made h = or_begins (is_word t.class) (starts_named_head t.class) h (λ e. some refl (in_first (begun_pick is_word word_of t e))) (λ e. some refl (begins_named_head e))
 
-  begins_cast_or_made : at starts_cast_or_made t ≡ true → (g.word_cast (g.deeper (suc n)) ∥ g.word_made (g.deeper (suc n)) ∥ g.id_expression (g.deeper (suc n)) ∥ g.type_made (g.deeper (suc n))).begins (t ∷ [])
+  pub begins_cast_or_made : at starts_cast_or_made t ≡ true → (g.word_cast (g.deeper (suc n)) ∥ g.word_made (g.deeper (suc n)) ∥ g.id_expression (g.deeper (suc n)) ∥ g.type_made (g.deeper (suc n))).begins (t ∷ [])
   begins_cast_or_made h = or_begins (is_cast_word t.class) (starts_made t.class) h (λ e. some refl (in_first (begun_pick is_cast_word cast_word_of t e))) (λ e. some refl (begins_made e))
 
-  begins_paren_or_made : at starts_paren_or_made t ≡ true → (g.paren (g.deeper (suc n)) ∥ g.word_cast (g.deeper (suc n)) ∥ g.word_made (g.deeper (suc n)) ∥ g.id_expression (g.deeper (suc n)) ∥ g.type_made (g.deeper (suc n))).begins (t ∷ [])
+  pub begins_paren_or_made : at starts_paren_or_made t ≡ true → (g.paren (g.deeper (suc n)) ∥ g.word_cast (g.deeper (suc n)) ∥ g.word_made (g.deeper (suc n)) ∥ g.id_expression (g.deeper (suc n)) ∥ g.type_made (g.deeper (suc n))).begins (t ∷ [])
   begins_paren_or_made h = or_begins (just k.OpenParen t.class) (starts_cast_or_made t.class) h (λ e. some refl (begun_by (λ m. (g.deeper m).expr ⊲ is k.CloseParen) (is k.OpenParen) t e (suc n))) (λ e. some refl (begins_cast_or_made e))
 
-  begins_string_or_more : at starts_string_or_more t ≡ true → (g.string (g.deeper (suc n)) ∥ g.paren (g.deeper (suc n)) ∥ g.word_cast (g.deeper (suc n)) ∥ g.word_made (g.deeper (suc n)) ∥ g.id_expression (g.deeper (suc n)) ∥ g.type_made (g.deeper (suc n))).begins (t ∷ [])
+  pub begins_string_or_more : at starts_string_or_more t ≡ true → (g.string (g.deeper (suc n)) ∥ g.paren (g.deeper (suc n)) ∥ g.word_cast (g.deeper (suc n)) ∥ g.word_made (g.deeper (suc n)) ∥ g.id_expression (g.deeper (suc n)) ∥ g.type_made (g.deeper (suc n))).begins (t ∷ [])
   begins_string_or_more h = or_begins (is_string t.class) (starts_paren_or_made t.class) h (λ e. some refl (in_first (begun_pick is_string text_of t e))) (λ e. some refl (begins_paren_or_made e))
 
   pub begins_head : at starts_head t ≡ true → (g.head (g.deeper (suc n))).begins (t ∷ [])
@@ -63,19 +63,19 @@ module _ (t : Lexeme) (n : ℕ) where
 
   -- ---- operands
 
-  begins_sizeof_or_head : at starts_sizeof_or_head t ≡ true → ((g.sizeof_type (g.deeper (suc n)) ∥ g.sizeof_expr (g.deeper (suc n))) ∥ (closed <$> g.postfix (g.deeper (suc n)))).begins (t ∷ [])
+  pub begins_sizeof_or_head : at starts_sizeof_or_head t ≡ true → ((g.sizeof_type (g.deeper (suc n)) ∥ g.sizeof_expr (g.deeper (suc n))) ∥ (closed <$> g.postfix (g.deeper (suc n)))).begins (t ∷ [])
   begins_sizeof_or_head h = or_begins (just k.Sizeof t.class) (starts_head t.class) h
       (λ e. some refl (inl (some refl (begun_by (λ m. is k.OpenParen ⊳ g.typeid (g.deeper m) ⊲ is k.CloseParen) (is k.Sizeof) t e (suc n))))) (λ e. some refl (in_first (begins_head e)))
 
-  begins_alignof_or_more : at starts_alignof_or_more t ≡ true → (g.alignof_type (g.deeper (suc n)) ∥ (g.sizeof_type (g.deeper (suc n)) ∥ g.sizeof_expr (g.deeper (suc n))) ∥ (closed <$> g.postfix (g.deeper (suc n)))).begins (t ∷ [])
+  pub begins_alignof_or_more : at starts_alignof_or_more t ≡ true → (g.alignof_type (g.deeper (suc n)) ∥ (g.sizeof_type (g.deeper (suc n)) ∥ g.sizeof_expr (g.deeper (suc n))) ∥ (closed <$> g.postfix (g.deeper (suc n)))).begins (t ∷ [])
   begins_alignof_or_more h = or_begins (just k.Alignof t.class) (starts_sizeof_or_head t.class) h
       (λ e. some refl (begun_by (λ m. is k.OpenParen ⊳ g.typeid (g.deeper m) ⊲ is k.CloseParen) (is k.Alignof) t e (suc n))) (λ e. some refl (begins_sizeof_or_head e))
 
-  begins_new_or_more : at starts_new_or_more t ≡ true → (g.new (g.deeper (suc n)) ∥ g.alignof_type (g.deeper (suc n)) ∥ (g.sizeof_type (g.deeper (suc n)) ∥ g.sizeof_expr (g.deeper (suc n))) ∥ (closed <$> g.postfix (g.deeper (suc n)))).begins (t ∷ [])
+  pub begins_new_or_more : at starts_new_or_more t ≡ true → (g.new (g.deeper (suc n)) ∥ g.alignof_type (g.deeper (suc n)) ∥ (g.sizeof_type (g.deeper (suc n)) ∥ g.sizeof_expr (g.deeper (suc n))) ∥ (closed <$> g.postfix (g.deeper (suc n)))).begins (t ∷ [])
   begins_new_or_more h = or_begins (just k.New t.class) (starts_alignof_or_more t.class) h
       (λ e. some refl (in_first (begun_by (λ m. g.specs) (is k.New) t e (suc n)))) (λ e. some refl (begins_alignof_or_more e))
 
-  begins_delete_or_more : at starts_delete_or_more t ≡ true → (g.delete (g.deeper (suc n)) ∥ g.new (g.deeper (suc n)) ∥ g.alignof_type (g.deeper (suc n)) ∥ (g.sizeof_type (g.deeper (suc n)) ∥ g.sizeof_expr (g.deeper (suc n))) ∥ (closed <$> g.postfix (g.deeper (suc n)))).begins (t ∷ [])
+  pub begins_delete_or_more : at starts_delete_or_more t ≡ true → (g.delete (g.deeper (suc n)) ∥ g.new (g.deeper (suc n)) ∥ g.alignof_type (g.deeper (suc n)) ∥ (g.sizeof_type (g.deeper (suc n)) ∥ g.sizeof_expr (g.deeper (suc n))) ∥ (closed <$> g.postfix (g.deeper (suc n)))).begins (t ∷ [])
   begins_delete_or_more h = or_begins (just k.Delete t.class) (starts_new_or_more t.class) h
       (λ e. some refl (in_first (begun_by (λ m. maybe (is k.OpenBracket ⊳ the (is k.CloseBracket))) (is k.Delete) t e (suc n)))) (λ e. some refl (begins_new_or_more e))
 
@@ -99,7 +99,7 @@ module _ (t : Lexeme) (n : ℕ) where
   pub begins_expr : at starts_assign t ≡ true → (g.expr (g.deeper (suc n))).begins (t ∷ [])
   begins_expr h = in_first (begins_assign h)
 
-  begins_clause : at starts_clause t ≡ true → (g.clause (g.deeper (suc (suc n)))).begins (t ∷ [])
+  pub begins_clause : at starts_clause t ≡ true → (g.clause (g.deeper (suc (suc n)))).begins (t ∷ [])
   unfolding same_class
   begins_clause h = or_begins (starts_assign t.class) (just k.OpenBrace t.class) (sub starts_clause (λ c. starts_assign c || just k.OpenBrace c) refl t h)
       (λ e. some refl (begins_assign e)) (λ e. some refl (begun_by (λ m. maybe (trailed (is k.Comma) (g.clause (g.deeper m))) ⊲ is k.CloseBrace) (is k.OpenBrace) t e (suc n)))
@@ -107,7 +107,7 @@ module _ (t : Lexeme) (n : ℕ) where
 -- ---- alternatives that go a level deeper
 
 -- from two levels on
-from_two : {A : Type 0} (G : Family Lexeme A) (x : List Lexeme) → ((n : ℕ) → (G (suc (suc n))).begins x) → (n : ℕ) → 2 ≤ n → (G n).begins x
+pub from_two : {A : Type 0} (G : Family Lexeme A) (x : List Lexeme) → ((n : ℕ) → (G (suc (suc n))).begins x) → (n : ℕ) → 2 ≤ n → (G n).begins x
 from_two G x b zero p = absurd (omega arith)
 from_two G x b (suc zero) p = absurd (omega arith)
 from_two G x b (suc (suc n)) p = b n
@@ -122,7 +122,7 @@ module _ (t : Lexeme) where
   pub args_marked : at starts_assign t ≡ true → Marked (λ n. g.args (g.deeper n)) t
   args_marked h = record { enough = 2; begins = from_two (λ n. g.args (g.deeper n)) (t ∷ []) (λ n. in_first (begins_assign t n h)); gone = refl; unspelled = λ x w s. s.part.first; stays = λ n. refl }
 
-  no_clause : {x : List Lexeme} {w : _} → (g.clause (g.deeper 0)).spells x w → ⊥
+  pub no_clause : {x : List Lexeme} {w : _} → (g.clause (g.deeper 0)).spells x w → ⊥
   no_clause s = elim s [ inl a ↦ a.part | inr b ↦ b.part ]
 
   pub clauses_marked : at starts_clause t ≡ true → Marked (λ n. trailed (is k.Comma) (g.clause (g.deeper n))) t

@@ -23,7 +23,7 @@ covers_more {used = used} {more = more} w c = record {
   ends = λ n x y e b. within_trans more used x w (c.ends n x y e b);
 }
 
-goes_on : {T A : Type 0} (go go2 : A → T → Bool) → ((v : A) (t : T) → go v t ≡ true → go2 v t ≡ true) → (v : A) (y : List T) → GoesOn go v y → GoesOn go2 v y
+pub goes_on : {T A : Type 0} (go go2 : A → T → Bool) → ((v : A) (t : T) → go v t ≡ true → go2 v t ≡ true) → (v : A) (y : List T) → GoesOn go v y → GoesOn go2 v y
 goes_on go go2 k v [] h = h
 goes_on go go2 k v (t ∷ y) h = k v t h
 
@@ -76,10 +76,10 @@ module _ {T A : Type 0} (H : Family T A) (go : A → T → Bool) (least : ℕ) (
 -- ---- the one that was read and the other
 
 module _ {T A : Type 0} (G H : Family T A) (go : A → T → Bool) (least : ℕ) (ts : List T) where
-  covered : (R : ℕ → Type 0) (used : List T) → Covers H go ts used → Covered H go R ts used
+  pub covered : (R : ℕ → Type 0) (used : List T) → Covers H go ts used → Covered H go R ts used
   covered R used c = record { only = λ n i x y w e s. c.only n x y w e s; ends = λ n i x y e b. c.ends n x y e b }
 
-  covered_first : (R : ℕ → Type 0) (used : List T) → Covers G go ts used → Covered G go R ts used
+  pub covered_first : (R : ℕ → Type 0) (used : List T) → Covers G go ts used → Covered G go R ts used
   covered_first R used c = record { only = λ n i x y w e s. c.only n x y w e s; ends = λ n i x y e b. c.ends n x y e b }
 
   pub left_beside : (o : Outcome T A) (e : Exact G go least ts o) → Covers H go ts (used_in G go least ts o e) → Exact (λ n. either (G n) (H n)) go least ts o
@@ -133,10 +133,10 @@ second_begun {G = G} {H = H} {go = go} {least = least} {ts = ts} {o = o} g used 
 -- ---- both are absent at the last level
 
 module _ {T A : Type 0} (G H : Family T A) (go : A → T → Bool) (least : ℕ) (ts : List T) (left : ℕ) (g : Exact G go least ts (stop Nesting left)) (h : Exact H go least ts (stop Nesting left)) where
-  same_front : Within g.used h.used
+  pub same_front : Within g.used h.used
   same_front = front_by h.used h.rest g.used g.rest (sym h.core.cut ∙ g.core.cut) (let a = g.size in let b = h.size in omega arith)
 
-  nesting_covered : Covered H go (Reaches Nesting least) ts g.used
+  pub nesting_covered : Covered H go (Reaches Nesting least) ts g.used
   nesting_covered = record {
     only = λ n i x y w e s. elim (h.core.only n i x y w e s) [ same a b d ↦ absurd d | shorter within goes ↦ (within_trans g.used h.used x same_front within, goes) ];
     ends = λ n i x y e b. within_trans g.used h.used x same_front (h.core.ends n i x y e b);

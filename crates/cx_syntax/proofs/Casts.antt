@@ -35,34 +35,34 @@ use Rattle.cx_syntax.proofs.Operands.{exactly_paren_typeid}
 
 -- ---- the ends of the choices
 
-abbrev sizeof_or_head : r.Readers → Reader Lexeme Operand
+abbrev pub sizeof_or_head : r.Readers → Reader Lexeme Operand
 sizeof_or_head d = choose (just k.Sizeof) (r.sizeof d) (r.closed_postfix d)
 
-abbrev alignof_or_more : r.Readers → Reader Lexeme Operand
+abbrev pub alignof_or_more : r.Readers → Reader Lexeme Operand
 alignof_or_more d = choose (just k.Alignof) (r.alignof_type d) (sizeof_or_head d)
 
-abbrev new_or_more : r.Readers → Reader Lexeme Operand
+abbrev pub new_or_more : r.Readers → Reader Lexeme Operand
 new_or_more d = choose (just k.New) (r.new d) (alignof_or_more d)
 
-abbrev delete_or_more : r.Readers → Reader Lexeme Operand
+abbrev pub delete_or_more : r.Readers → Reader Lexeme Operand
 delete_or_more d = choose (just k.Delete) (r.delete d) (new_or_more d)
 
-abbrev cast_or_made : r.Readers → Reader Lexeme ExprKind
+abbrev pub cast_or_made : r.Readers → Reader Lexeme ExprKind
 cast_or_made d = choose is_cast_word (r.word_cast d) (choose is_word (r.word_made d) (r.named_head d))
 
-abbrev paren_or_made : r.Readers → Reader Lexeme ExprKind
+abbrev pub paren_or_made : r.Readers → Reader Lexeme ExprKind
 paren_or_made d = choose (just k.OpenParen) (r.paren d) (cast_or_made d)
 
-abbrev string_or_more : r.Readers → Reader Lexeme ExprKind
+abbrev pub string_or_more : r.Readers → Reader Lexeme ExprKind
 string_or_more d = choose is_string (r.string d) (paren_or_made d)
 
-heads_via : {A : Type 0} {L : Family Lexeme A} {p : Lexeme → Bool} (level : ℕ → ℕ) → Heads L p → Heads (λ n. L (level n)) p
+pub heads_via : {A : Type 0} {L : Family Lexeme A} {p : Lexeme → Bool} (level : ℕ → ℕ) → Heads L p → Heads (λ n. L (level n)) p
 heads_via level h = record { blank = λ n. h.blank (level n); full = λ n. h.full (level n); spells = λ n. h.spells (level n); begins = λ n. h.begins (level n) }
 
 -- ---- at a parenthesis
 
 module _ (t : Lexeme) (u : List Lexeme) (open_paren : is k.OpenParen t ≡ true) where
-  elsewhere_paren : {A : Type 0} {L : Family Lexeme A} (p : Class → Bool) (level : ℕ → ℕ) → Heads L (at p) → Apart (at (just k.OpenParen)) (at p) → (used : List Lexeme) → Never (λ n. L (level n)) (t ∷ u) used
+  pub elsewhere_paren : {A : Type 0} {L : Family Lexeme A} (p : Class → Bool) (level : ℕ → ℕ) → Heads L (at p) → Apart (at (just k.OpenParen)) (at p) → (used : List Lexeme) → Never (λ n. L (level n)) (t ∷ u) used
   elsewhere_paren p level heads a used = never_elsewhere (heads_via level heads) (t ∷ u) (unseen_by a (t ∷ u) open_paren) used
 
   -- a unary expression goes as far as what stands in the parentheses
@@ -101,7 +101,7 @@ module _ (t : Lexeme) (u : List Lexeme) (open_paren : is k.OpenParen t ≡ true)
 
   -- ---- at the last level
 
-  unary_nests : r.unary (r.deeper 0) (t ∷ u) ≡ stop Nesting (length (t ∷ u))
+  pub unary_nests : r.unary (r.deeper 0) (t ∷ u) ≡ stop Nesting (length (t ∷ u))
   unfolding r.unary r.postfix r.head r.head_kind r.paren r.deeper same_class
   unary_nests = let ts = t ∷ u in let d = r.deeper 0 in
       choose_rest is_prefix (r.prefix d) (delete_or_more d) ts (unseen_by (apart (just k.OpenParen) is_prefix refl) ts open_paren)
@@ -116,36 +116,36 @@ module _ (t : Lexeme) (u : List Lexeme) (open_paren : is k.OpenParen t ≡ true)
 
 -- ---- a cast or a unary expression
 
-abbrev cast_read : ℕ → List Lexeme → Bool → Outcome Lexeme Operand
+abbrev pub cast_read : ℕ → List Lexeme → Bool → Outcome Lexeme Operand
 cast_read left ts b = if b then r.type_cast (r.deeper left) ts else r.unary (r.deeper left) ts
 
-abbrev casts : Family Lexeme Operand
+abbrev pub casts : Family Lexeme Operand
 casts n = g.type_cast (g.deeper n) ∥ g.unary (g.deeper n)
 
 -- what may be read, given how unary expressions are read
 module _ (left : ℕ) (d : Sound left) (u : Exactly (λ n. g.unary (g.deeper n)) (goes_operand 0) left (r.unary (r.deeper left))) where
-  type_cast_there : (r.deeper left).room ≡ true → Exactly (λ n. g.type_cast (g.deeper n)) (goes_operand 0) left (cast_of <$$> measured_by span_of (r.type_cast_parts (r.deeper left)))
+  pub type_cast_there : (r.deeper left).room ≡ true → Exactly (λ n. g.type_cast (g.deeper n)) (goes_operand 0) left (cast_of <$$> measured_by span_of (r.type_cast_parts (r.deeper left)))
   unfolding same_class
   type_cast_there there = exactly_made (λ w t. goes_operand 0 w.0.1 t) (goes_operand 0) cast_of (λ v t i. i) (exactly_spanned span_of (λ w t. goes_operand 0 w.1 t)
       (exactly_then (goes_operand 0) (exactly_paren_typeid left d) (d.cast there) h.heads_deep_cast (never_apart (at starts_unary))))
 
-  type_cast_right : (t : Lexeme) (ts : List Lexeme) → is k.OpenParen t ≡ true → Right (λ n. present (g.type_cast (g.deeper n))) (goes_operand 0) left (t ∷ ts) (r.type_cast (r.deeper left) (t ∷ ts))
+  pub type_cast_right : (t : Lexeme) (ts : List Lexeme) → is k.OpenParen t ≡ true → Right (λ n. present (g.type_cast (g.deeper n))) (goes_operand 0) left (t ∷ ts) (r.type_cast (r.deeper left) (t ∷ ts))
   unfolding r.type_cast
   type_cast_right t ts s = marked (λ n. (r.deeper n).room) h.room left (b.type_cast_marked t s) type_cast_there
 
-unary_right : (left : ℕ) → Exactly (λ n. g.unary (g.deeper n)) (goes_operand 0) left (r.unary (r.deeper left)) → (ts : List Lexeme) → Right (λ n. present (g.unary (g.deeper n))) (goes_operand 0) left ts (r.unary (r.deeper left) ts)
+pub unary_right : (left : ℕ) → Exactly (λ n. g.unary (g.deeper n)) (goes_operand 0) left (r.unary (r.deeper left)) → (ts : List Lexeme) → Right (λ n. present (g.unary (g.deeper n))) (goes_operand 0) left ts (r.unary (r.deeper left) ts)
 unary_right left u ts = there_present refl (λ n. refl) (right_of u ts)
 
-cast_nests : (ts : List Lexeme) → r.type_cast (r.deeper 0) ts ≡ stop Nesting (length ts)
+pub cast_nests : (ts : List Lexeme) → r.type_cast (r.deeper 0) ts ≡ stop Nesting (length ts)
 unfolding r.type_cast r.deeper
 cast_nests ts = refl
 
-last_read : (t : Lexeme) (ts : List Lexeme) → is k.OpenParen t ≡ true → (b : Bool) → cast_read 0 (t ∷ ts) b ≡ stop Nesting (length (t ∷ ts))
+pub last_read : (t : Lexeme) (ts : List Lexeme) → is k.OpenParen t ≡ true → (b : Bool) → cast_read 0 (t ∷ ts) b ≡ stop Nesting (length (t ∷ ts))
 last_read t ts s true = cast_nests (t ∷ ts)
 last_read t ts s false = unary_nests t ts s
 
 -- at the last level none of the two is there
-cast_last : (d : Sound 0) → Exactly (λ n. g.unary (g.deeper n)) (goes_operand 0) 0 (r.unary (r.deeper 0)) → (t : Lexeme) (ts : List Lexeme) → is k.OpenParen t ≡ true → (b : Bool) → Right casts (goes_operand 0) 0 (t ∷ ts) (cast_read 0 (t ∷ ts) b)
+pub cast_last : (d : Sound 0) → Exactly (λ n. g.unary (g.deeper n)) (goes_operand 0) 0 (r.unary (r.deeper 0)) → (t : Lexeme) (ts : List Lexeme) → is k.OpenParen t ≡ true → (b : Bool) → Right casts (goes_operand 0) 0 (t ∷ ts) (cast_read 0 (t ∷ ts) b)
 cast_last d u t ts s b =
     let P : Outcome Lexeme Operand → Type 0 = λ o. Exact (λ n. present (g.type_cast (g.deeper n))) (goes_operand 0) 0 (t ∷ ts) o in
     let Q : Outcome Lexeme Operand → Type 0 = λ o. Exact (λ n. present (g.unary (g.deeper n))) (goes_operand 0) 0 (t ∷ ts) o in
@@ -156,7 +156,7 @@ cast_last d u t ts s b =
     } in subst R (sym (last_read t ts s b)) both
 
 -- before it the one that the tokens ahead tell goes as far as the other
-cast_before : (m : ℕ) (d : Sound (suc m)) → Exactly (λ n. g.unary (g.deeper n)) (goes_operand 0) (suc m) (r.unary (r.deeper (suc m))) → (t : Lexeme) (ts : List Lexeme) → is k.OpenParen t ≡ true
+pub cast_before : (m : ℕ) (d : Sound (suc m)) → Exactly (λ n. g.unary (g.deeper n)) (goes_operand 0) (suc m) (r.unary (r.deeper (suc m))) → (t : Lexeme) (ts : List Lexeme) → is k.OpenParen t ≡ true
     → (b : Bool) → type_ahead ts ≡ b → Right casts (goes_operand 0) (suc m) (t ∷ ts) (cast_read (suc m) (t ∷ ts) b)
 cast_before m d u t ts s true e = let f = type_front ts e in
     first_begun (type_cast_right (suc m) d u t ts s) (t ∷ f.run) f.rest (ap (λ l. t ∷ l) f.cut) (covers_present (never_covers (goes_operand 0) (never_unary_at t ts s f))) (some refl (in_first (paren_types t ts s f (suc m))))
@@ -165,17 +165,17 @@ cast_before m d u t ts s false e = let f = expr_front ts e in
     (covers_present (never_covers (goes_operand 0) (never_as cast_of (never_measured span_of (never_both _ (never_typeid_at t ts s f)))))) (some refl (unary_begun t ts s f m))
 
 module _ (left : ℕ) (d : Sound left) (u : Exactly (λ n. g.unary (g.deeper n)) (goes_operand 0) left (r.unary (r.deeper left))) where
-  unary_only : (ts : List Lexeme) → sees (is k.OpenParen) ts ≡ false → Right casts (goes_operand 0) left ts (r.unary (r.deeper left) ts)
+  pub unary_only : (ts : List Lexeme) → sees (is k.OpenParen) ts ≡ false → Right casts (goes_operand 0) left ts (r.unary (r.deeper left) ts)
   unary_only ts s = second_of_two h.heads_type_cast s (unary_right left u ts)
 
-cast_paren : (left : ℕ) → Sound left → Exactly (λ n. g.unary (g.deeper n)) (goes_operand 0) left (r.unary (r.deeper left)) → (t : Lexeme) (ts : List Lexeme) → is k.OpenParen t ≡ true → Right casts (goes_operand 0) left (t ∷ ts) (cast_read left (t ∷ ts) (type_ahead ts))
+pub cast_paren : (left : ℕ) → Sound left → Exactly (λ n. g.unary (g.deeper n)) (goes_operand 0) left (r.unary (r.deeper left)) → (t : Lexeme) (ts : List Lexeme) → is k.OpenParen t ≡ true → Right casts (goes_operand 0) left (t ∷ ts) (cast_read left (t ∷ ts) (type_ahead ts))
 cast_paren zero d u t ts s = cast_last d u t ts s (type_ahead ts)
 cast_paren (suc m) d u t ts s = cast_before m d u t ts s (type_ahead ts) refl
 
-abbrev ahead_by : Bool → List Lexeme → Bool
+abbrev pub ahead_by : Bool → List Lexeme → Bool
 ahead_by b ts = if b then type_ahead (tail_of ts) else false
 
-cast_at : (left : ℕ) → Sound left → Exactly (λ n. g.unary (g.deeper n)) (goes_operand 0) left (r.unary (r.deeper left)) → (ts : List Lexeme) (b : Bool) → sees (is k.OpenParen) ts ≡ b → Right casts (goes_operand 0) left ts (cast_read left ts (ahead_by b ts))
+pub cast_at : (left : ℕ) → Sound left → Exactly (λ n. g.unary (g.deeper n)) (goes_operand 0) left (r.unary (r.deeper left)) → (ts : List Lexeme) (b : Bool) → sees (is k.OpenParen) ts ≡ b → Right casts (goes_operand 0) left ts (cast_read left ts (ahead_by b ts))
 cast_at left d u [] true s = absurd (let c : false ≡ true = s in cc)
 cast_at left d u (t ∷ ts) true s = cast_paren left d u t ts s
 cast_at left d u ts false s = unary_only left d u ts s

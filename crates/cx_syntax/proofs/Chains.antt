@@ -20,7 +20,7 @@ use Rattle.cx_syntax.specs.Goes.{goes_by, goes_operand}
 
 -- ---- what goes on with an operand of a level is no operator of the next that may follow it
 
-level_apart : (p : ℕ) (b : Bool) → Apart (at (goes_by p b)) (at (allowed p b))
+pub level_apart : (p : ℕ) (b : Bool) → Apart (at (goes_by p b)) (at (allowed p b))
 unfolding same_class
 level_apart zero true = apart (goes_by 0 true) (allowed 0 true) refl
 level_apart zero false = apart (goes_by 0 false) (allowed 0 false) refl
@@ -44,15 +44,15 @@ level_apart (suc (suc (suc (suc (suc (suc (suc (suc (suc zero))))))))) true = ap
 level_apart (suc (suc (suc (suc (suc (suc (suc (suc (suc zero))))))))) false = apart (goes_by 9 false) (allowed 9 false) refl
 level_apart (suc (suc (suc (suc (suc (suc (suc (suc (suc (suc p)))))))))) b = λ t i j. cc
 
-and_left : (b c : Bool) → (b && c) ≡ true → b ≡ true
+pub and_left : (b c : Bool) → (b && c) ≡ true → b ≡ true
 and_left true c e = refl
 and_left false c e = e
 
-wider : (p : ℕ) (b : Bool) → Sub (at (goes_by p b)) (at (goes_by (suc p) b))
+pub wider : (p : ℕ) (b : Bool) → Sub (at (goes_by p b)) (at (goes_by (suc p) b))
 wider p true t i = or_left (goes_by p true t.class) (operators p t.class) i
 wider p false t i = or_left (goes_by p false t.class) (operators p t.class) i
 
-allowed_goes : (p : ℕ) (b : Bool) → Sub (at (allowed p b)) (at (goes_by (suc p) b))
+pub allowed_goes : (p : ℕ) (b : Bool) → Sub (at (allowed p b)) (at (goes_by (suc p) b))
 allowed_goes p true t i = or_right (goes_by p true t.class) (and_left (operators p t.class) (not (true && is_after_new t.class)) i)
 allowed_goes p false t i = or_right (goes_by p false t.class) (and_left (operators p t.class) (not (false && is_after_new t.class)) i)
 
@@ -73,17 +73,17 @@ module _ (left p : ℕ) (c : Exactly (λ n. g.chain (g.deeper n) p) (goes_operan
   abbrev go_turns : Bool → List Turn → Lexeme → Bool
   go_turns b vs t = goes_by (suc p) (flag_behind ends_open b vs) t.class
 
-  heads_turn : (b : Bool) → Heads (turn b) (at (allowed p b))
+  pub heads_turn : (b : Bool) → Heads (turn b) (at (allowed p b))
   heads_turn b = heads_both _ (heads_pick (allowed p b) binary_of)
 
-  exactly_turn : (b : Bool) → Exactly (turn b) go_turn left (r.turn (r.deeper left) p (r.chain (r.deeper left) p) b)
+  pub exactly_turn : (b : Bool) → Exactly (turn b) go_turn left (r.turn (r.deeper left) p (r.chain (r.deeper left) p) b)
   exactly_turn b = exactly_next (goes_operand p) exactly_token c
 
-  first_goes : (b : Bool) (ts : List Lexeme) → sees (at (allowed p b)) ts ≡ true → GoesOn (go_turns b) [] ts
+  pub first_goes : (b : Bool) (ts : List Lexeme) → sees (at (allowed p b)) ts ≡ true → GoesOn (go_turns b) [] ts
   first_goes b [] s = blank_seen (at (allowed p b)) s
   first_goes b (t ∷ ts) s = allowed_goes p b t s
 
-  turns : Turns turn ends_open go_turn go_turns (λ b. at (allowed p b)) (r.turn (r.deeper left) p (r.chain (r.deeper left) p)) left
+  pub turns : Turns turn ends_open go_turn go_turns (λ b. at (allowed p b)) (r.turn (r.deeper left) p (r.chain (r.deeper left) p)) left
   turns = record {
     full = λ b n w s. (heads_turn b).full n w s;
     item = λ b ts s. exact_present (turn b) go_turn left ts (r.turn (r.deeper left) p (r.chain (r.deeper left) p) b ts) (λ n l. chain_stays p n) ((exactly_turn b).at ts);
@@ -98,10 +98,10 @@ module _ (left p : ℕ) (c : Exactly (λ n. g.chain (g.deeper n) p) (goes_operan
   abbrev operations : Operand → Family Lexeme (List Turn)
   operations first n = links (g.turn (g.deeper n) p (g.chain (g.deeper n) p)) ends_open first.1
 
-  over : (b : Bool) (vs : List Turn) (t : Lexeme) → vs ≡ [] → goes_by p b t.class ≡ true → go_turns b vs t ≡ true
+  pub over : (b : Bool) (vs : List Turn) (t : Lexeme) → vs ≡ [] → goes_by p b t.class ≡ true → go_turns b vs t ≡ true
   over b vs t e i = let P : List Turn → Type 0 = λ l. go_turns b l t ≡ true in subst P (sym e) (wider p b t i)
 
-  follows : Follows (λ n. g.chain (g.deeper n) p) operations (goes_operand p) (λ first. go_turns first.1) (λ v t. go_turns v.0.1 v.1 t)
+  pub follows : Follows (λ n. g.chain (g.deeper n) p) operations (goes_operand p) (λ first. go_turns first.1) (λ v t. go_turns v.0.1 v.1 t)
   follows = record {
     begins = λ n a t x k i. links_follow turn ends_open go_turn go_turns (λ b. at (allowed p b)) (r.turn (r.deeper left) p (r.chain (r.deeper left) p)) left turns a.1 n t x (λ u. IsTrue (goes_operand p a u) → ⊥)
         (λ u y w s j. level_apart p a.1 u j ((heads_turn a.1).spells n u y w s)) (λ u y s j. level_apart p a.1 u j ((heads_present (heads_turn a.1)).begins n u y s)) k i;
@@ -111,18 +111,18 @@ module _ (left p : ℕ) (c : Exactly (λ n. g.chain (g.deeper n) p) (goes_operan
     over = λ n v t s i. over v.0.1 v.1 t (links_none turn ends_open go_turn go_turns (λ b. at (allowed p b)) (r.turn (r.deeper left) p (r.chain (r.deeper left) p)) left turns v.0.1 n v.1 s) i;
   }
 
-  made_goes : (first : Operand) (vs : List Turn) (s : Span) (t : Lexeme) → go_turns first.1 vs t ≡ true → goes_operand (suc p) (chained ((first, vs), s)) t ≡ true
+  pub made_goes : (first : Operand) (vs : List Turn) (s : Span) (t : Lexeme) → go_turns first.1 vs t ≡ true → goes_operand (suc p) (chained ((first, vs), s)) t ≡ true
   made_goes first [] s t i = i
   made_goes first (v ∷ vs) s t i = i
 
-  exactly_level : Exactly (λ n. g.chain (g.deeper n) (suc p)) (goes_operand (suc p)) left (r.chain (r.deeper left) (suc p))
+  pub exactly_level : Exactly (λ n. g.chain (g.deeper n) (suc p)) (goes_operand (suc p)) left (r.chain (r.deeper left) (suc p))
   unfolding r.chain
   exactly_level = exactly_made (λ w t. go_turns w.0.0.1 w.0.1 t) (goes_operand (suc p)) chained (λ w t i. made_goes w.0.0 w.0.1 w.1 t i) (exactly_spanned span_of (λ v t. go_turns v.0.1 v.1 t)
       (exactly_then_by (λ n. g.chain (g.deeper n) p) operations (goes_operand p) (λ first. go_turns first.1) (λ v t. go_turns v.0.1 v.1 t) follows left (r.chain (r.deeper left) p)
       (λ first. r.turns (r.deeper left) p (r.chain (r.deeper left) p) first.1) c
       (λ first. exactly_links turn ends_open go_turn go_turns (λ b. at (allowed p b)) (r.turn (r.deeper left) p (r.chain (r.deeper left) p)) left turns first.1)))
 
-chain_zero : (left : ℕ) → Exactly (λ n. g.cast (g.deeper n)) (goes_operand 0) left (r.cast (r.deeper left)) → Exactly (λ n. g.chain (g.deeper n) zero) (goes_operand 0) left (r.chain (r.deeper left) zero)
+pub chain_zero : (left : ℕ) → Exactly (λ n. g.cast (g.deeper n)) (goes_operand 0) left (r.cast (r.deeper left)) → Exactly (λ n. g.chain (g.deeper n) zero) (goes_operand 0) left (r.chain (r.deeper left) zero)
 unfolding r.chain
 chain_zero left c = c
 

@@ -15,11 +15,11 @@ pub record Viable {T A : Type 0} (g : Language T A) : Type 0 where
   pub any : g.stays ≡ true → Goes g []
   pub front : g.stays ≡ true → (t : T) (x : List T) → g.begins (t ∷ x) → Goes g (t ∷ x)
 
-and_left : (b c : Bool) → (b && c) ≡ true → b ≡ true
+pub and_left : (b c : Bool) → (b && c) ≡ true → b ≡ true
 and_left true c e = refl
 and_left false c e = e
 
-and_right : (b c : Bool) → (b && c) ≡ true → c ≡ true
+pub and_right : (b c : Bool) → (b && c) ≡ true → c ≡ true
 and_right true c e = e
 and_right false c e = cc
 
@@ -41,7 +41,7 @@ viable_the p t e = viable_one (passing p) t tt (ap (λ b. if b then Some tt else
 -- ---- one part and then another
 
 module _ {T A B : Type 0} {g : Language T A} {h : Language T B} (a : g.stays ≡ true → (t : T) (x : List T) → g.begins (t ∷ x) → Goes g (t ∷ x)) (b : Viable h) where
-  both_spelled : (x f k l : List T) (v : A) (w : B) → x ≡ f ++ k → g.spells f v → h.spells (k ++ l) w → (g >> h).spells (x ++ l) (v, w)
+  pub both_spelled : (x f k l : List T) (v : A) (w : B) → x ≡ f ++ k → g.spells f v → h.spells (k ++ l) w → (g >> h).spells (x ++ l) (v, w)
   both_spelled x f k l v w cut s z = record { front = f; back = k ++ l; cut = ap (λ y. y ++ l) cut ∙ append_assoc f k l; first = s; second = z }
 
   pub both_front : (s : (g.stays && h.stays) ≡ true) (t : T) (x : List T) → (g >> h).begins (t ∷ x) → Goes (g >> h) (t ∷ x)
@@ -72,11 +72,11 @@ viable_measured f a = record {
 -- ---- alternatives
 
 module _ {T A : Type 0} {g h : Language T A} (a : Viable g) (b : Viable h) where
-  or_any : (c : Bool) → g.stays ≡ c → (c || h.stays) ≡ true → Goes (g ∥ h) []
+  pub or_any : (c : Bool) → g.stays ≡ c → (c || h.stays) ≡ true → Goes (g ∥ h) []
   or_any true e s = let p = a.any e in record { more = p.more; value = p.value; spelled = inl p.spelled }
   or_any false e s = let p = b.any s in record { more = p.more; value = p.value; spelled = inr p.spelled }
 
-  or_front : (t : T) (x : List T) → (g ∥ h).begins (t ∷ x) → Goes (g ∥ h) (t ∷ x)
+  pub or_front : (t : T) (x : List T) → (g ∥ h).begins (t ∷ x) → Goes (g ∥ h) (t ∷ x)
   or_front t x (inl (none_yet e)) = cc
   or_front t x (inr (none_yet e)) = cc
   or_front t x (inl (some s c)) = let p = a.front s t x c in record { more = p.more; value = p.value; spelled = inl p.spelled }
@@ -86,7 +86,7 @@ module _ {T A : Type 0} {g h : Language T A} (a : Viable g) (b : Viable h) where
   viable_or = record { any = λ s. or_any g.stays refl s; front = λ s t x c. or_front t x c }
 
 module _ {T A : Type 0} {g : Language T A} (a : Viable g) where
-  maybe_front : (t : T) (x : List T) → (maybe g).begins (t ∷ x) → Goes (maybe g) (t ∷ x)
+  pub maybe_front : (t : T) (x : List T) → (maybe g).begins (t ∷ x) → Goes (maybe g) (t ∷ x)
   maybe_front t x (inl e) = cc
   maybe_front t x (inr (none_yet e)) = cc
   maybe_front t x (inr (some s c)) = let p = a.front s t x c in record { more = p.more; value = Some p.value; spelled = inr (record { value = p.value; made = refl; part = p.spelled }) }
@@ -96,11 +96,11 @@ module _ {T A : Type 0} {g : Language T A} (a : Viable g) where
 
   -- ---- repetitions
 
-  more_turns : (x f k : List T) (vs : List A) (v : A) → x ≡ f ++ k → SpellsMany g f vs → g.spells k v → SpellsMany g x (vs ++ v ∷ [])
+  pub more_turns : (x f k : List T) (vs : List A) (v : A) → x ≡ f ++ k → SpellsMany g f vs → g.spells k v → SpellsMany g x (vs ++ v ∷ [])
   more_turns x f k [] v e s z = (x, [], sym (append-nil x), (let P : List T → Type 0 = λ l. g.spells l v in subst P (sym (e ∙ ap (λ l. l ++ k) s)) z), refl)
   more_turns x f k (u ∷ us) v e s z = (s.0, s.1 ++ k, e ∙ (ap (λ l. l ++ k) s.2 ∙ append_assoc s.0 s.1 k), s.3, more_turns (s.1 ++ k) s.1 k us v refl s.4 z)
 
-  many_at : (x f k : List T) (vs : List A) → x ≡ f ++ k → SpellsMany g f vs → BeginsPresent g k → Goes (many g) x
+  pub many_at : (x f k : List T) (vs : List A) → x ≡ f ++ k → SpellsMany g f vs → BeginsPresent g k → Goes (many g) x
   many_at x f [] vs e s b = record { more = []; value = vs; spelled = let P : List T → Type 0 = λ l. SpellsMany g l vs in subst P (sym (append-nil x ∙ (e ∙ append-nil f))) s }
   many_at x f (u ∷ k) vs e s (none_yet c) = cc
   many_at x f (u ∷ k) vs e s (some st c) = let p = a.front st u k c in
@@ -109,11 +109,11 @@ module _ {T A : Type 0} {g : Language T A} (a : Viable g) where
   pub viable_many : Viable (many g)
   viable_many = record { any = λ s. record { more = []; value = []; spelled = refl }; front = λ s t x b. many_at (t ∷ x) b.front b.back b.turns b.cut b.whole b.next }
 
-  upto_any : (most : ℕ) → Goes (upto most g) []
+  pub upto_any : (most : ℕ) → Goes (upto most g) []
   upto_any zero = record { more = []; value = []; spelled = record { value = tt; made = refl; part = refl } }
   upto_any (suc most) = record { more = []; value = []; spelled = inr (record { value = tt; made = refl; part = refl }) }
 
-  upto_front : (most : ℕ) (t : T) (x : List T) → (upto most g).begins (t ∷ x) → Goes (upto most g) (t ∷ x)
+  pub upto_front : (most : ℕ) (t : T) (x : List T) → (upto most g).begins (t ∷ x) → Goes (upto most g) (t ∷ x)
   upto_front zero t x b = cc
   upto_front (suc most) t x (inr b) = cc
   upto_front (suc most) t x (inl (in_first (none_yet e))) = cc
@@ -136,7 +136,7 @@ viable_behind p t e a = viable_as (λ pair. pair.0) (viable_both a (viable_the p
 -- ---- what may follow a value, and turns
 
 module _ {T A B : Type 0} {g : Language T A} {h : A → Language T B} (a : Viable g) (b : (v : A) → Viable (h v)) (stays : (v : A) → (h v).stays ≡ true) where
-  then_front_goes : g.stays ≡ true → (t : T) (x : List T) → (then_by g h).begins (t ∷ x) → Goes (then_by g h) (t ∷ x)
+  pub then_front_goes : g.stays ≡ true → (t : T) (x : List T) → (then_by g h).begins (t ∷ x) → Goes (then_by g h) (t ∷ x)
   then_front_goes s t x (then_first c) = let p = a.front s t x c in let q = (b p.value).any (stays p.value) in
       record { more = p.more ++ q.more; value = (p.value, q.value); spelled = record { front = t ∷ x ++ p.more; back = q.more; cut = sym (append_assoc (t ∷ x) p.more q.more); first = p.spelled; second = q.spelled } }
   then_front_goes s t x (then_second f [] v cut z c) = let q = (b v).any (stays v) in
@@ -151,11 +151,11 @@ module _ {T A B : Type 0} {g : Language T A} {h : A → Language T B} (a : Viabl
   }
 
 module _ {T B : Type 0} (h : Bool → Language T B) (flag : B → Bool) (a : (b : Bool) → ((h b).stays ≡ true → (t : T) (x : List T) → (h b).begins (t ∷ x) → Goes (h b) (t ∷ x))) where
-  more_links : (b : Bool) (x f k : List T) (vs : List B) (v : B) → x ≡ f ++ k → SpellsLinks h flag b f vs → (h (flag_behind flag b vs)).spells k v → SpellsLinks h flag b x (vs ++ v ∷ [])
+  pub more_links : (b : Bool) (x f k : List T) (vs : List B) (v : B) → x ≡ f ++ k → SpellsLinks h flag b f vs → (h (flag_behind flag b vs)).spells k v → SpellsLinks h flag b x (vs ++ v ∷ [])
   more_links b x f k [] v e s z = (x, [], sym (append-nil x), (let P : List T → Type 0 = λ l. (h b).spells l v in subst P (sym (e ∙ ap (λ l. l ++ k) s)) z), refl)
   more_links b x f k (u ∷ us) v e s z = (s.0, s.1 ++ k, e ∙ (ap (λ l. l ++ k) s.2 ∙ append_assoc s.0 s.1 k), s.3, more_links (flag u) (s.1 ++ k) s.1 k us v refl s.4 z)
 
-  links_at : (b : Bool) (x f k : List T) (vs : List B) → x ≡ f ++ k → SpellsLinks h flag b f vs → BeginsPresent (h (flag_behind flag b vs)) k → Goes (links h flag b) x
+  pub links_at : (b : Bool) (x f k : List T) (vs : List B) → x ≡ f ++ k → SpellsLinks h flag b f vs → BeginsPresent (h (flag_behind flag b vs)) k → Goes (links h flag b) x
   links_at b x f [] vs e s n = record { more = []; value = vs; spelled = let P : List T → Type 0 = λ l. SpellsLinks h flag b l vs in subst P (sym (append-nil x ∙ (e ∙ append-nil f))) s }
   links_at b x f (u ∷ k) vs e s (none_yet c) = cc
   links_at b x f (u ∷ k) vs e s (some st c) = let p = a (flag_behind flag b vs) st u k c in
@@ -166,7 +166,7 @@ module _ {T B : Type 0} (h : Bool → Language T B) (flag : B → Bool) (a : (b 
 
 -- ---- one level deeper
 
-no_stay : false ≡ true → ⊥
+pub no_stay : false ≡ true → ⊥
 no_stay e = cc
 
 pub viable_absent : {T A : Type 0} → Viable {T = T} {A = A} absent

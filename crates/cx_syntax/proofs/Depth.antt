@@ -25,7 +25,7 @@ use Rattle.cx_syntax.proofs.Specifiers.{heads_specs}
 
 -- ---- a part with what may follow its value
 
-front_head : {T A : Type 0} {G : Family T A} {p : T → Bool} → Heads G p → (n : ℕ) (t : T) (x f b : List T) (v : A) → t ∷ x ≡ f ++ b → (G n).spells f v → p t ≡ true
+pub front_head : {T A : Type 0} {G : Family T A} {p : T → Bool} → Heads G p → (n : ℕ) (t : T) (x f b : List T) (v : A) → t ∷ x ≡ f ++ b → (G n).spells f v → p t ≡ true
 front_head h n t x [] b v e s = absurd (h.full n v s)
 front_head {G = G} {p = p} h n t x (u ∷ f) b v e s = let heads : u ≡ t = cc in subst (λ z. p z ≡ true) heads (h.spells n u f v s)
 
@@ -185,7 +185,7 @@ heads_sizeof_type = heads_as closed_kind (heads_measured span_of (heads_as e.Siz
 pub heads_sizeof_expr : Heads (λ n. g.sizeof_expr (g.deeper n)) (at (just k.Sizeof))
 heads_sizeof_expr = heads_as sizeof_operand (heads_measured span_of (heads_before {G = λ n. (g.deeper n).unary} (is k.Sizeof)))
 
-same_either : (b : Bool) → (b || b) ≡ true → b ≡ true
+pub same_either : (b : Bool) → (b || b) ≡ true → b ≡ true
 same_either true e = refl
 same_either false e = e
 

@@ -24,55 +24,55 @@ Endless g = Plain ended g
 
 -- ---- tokens
 
-not_end : (set : Class → Bool) → (variants enum).each (λ c. not (set c && just k.End c)) ≡ true → (t : Lexeme) → at set t ≡ true → ended t ≡ false
+pub not_end : (set : Class → Bool) → (variants enum).each (λ c. not (set c && just k.End c)) ≡ true → (t : Lexeme) → at set t ≡ true → ended t ≡ false
 not_end set e t i = false_of (just k.End t.class) (λ j. apart set (just k.End) e t i j)
 
 -- a token of a set without `End`
-endless_pick : {A : Type 0} (set : Class → Bool) (f : Lexeme → A) → (variants enum).each (λ c. not (set c && just k.End c)) ≡ true → Endless (one (pick set f))
+pub endless_pick : {A : Type 0} (set : Class → Bool) (f : Lexeme → A) → (variants enum).each (λ c. not (set c && just k.End c)) ≡ true → Endless (one (pick set f))
 endless_pick set f a = plain_one (pick set f) (λ t v e. not_end set a t (pick_fits set f t v e))
 
-endless_the : (c : Class) → (variants enum).each (λ d. not (just c d && just k.End d)) ≡ true → Endless (the (is c))
+pub endless_the : (c : Class) → (variants enum).each (λ d. not (just c d && just k.End d)) ≡ true → Endless (the (is c))
 endless_the c a = plain_the (is c) (not_end (just c) a)
 
-before : {A : Type 0} {g : Language Lexeme A} (c : Class) → (variants enum).each (λ d. not (just c d && just k.End d)) ≡ true → Endless g → Endless (is c ⊳ g)
+pub before : {A : Type 0} {g : Language Lexeme A} (c : Class) → (variants enum).each (λ d. not (just c d && just k.End d)) ≡ true → Endless g → Endless (is c ⊳ g)
 before c a g = plain_before (is c) (not_end (just c) a) g
 
-behind : {A : Type 0} {g : Language Lexeme A} (c : Class) → (variants enum).each (λ d. not (just c d && just k.End d)) ≡ true → Endless g → Endless (g ⊲ is c)
+pub behind : {A : Type 0} {g : Language Lexeme A} (c : Class) → (variants enum).each (λ d. not (just c d && just k.End d)) ≡ true → Endless g → Endless (g ⊲ is c)
 behind c a g = plain_behind (is c) (not_end (just c) a) g
 
 -- ---- what may follow a value, and turns
 
-free_both : (x y : List Lexeme) → Free ended x → Free ended y → Free ended (x ++ y)
+pub free_both : (x y : List Lexeme) → Free ended x → Free ended y → Free ended (x ++ y)
 free_both [] y a b = b
 free_both (t ∷ x) y a b = (a.0, free_both x y a.1 b)
 
-free_cut : (x f b : List Lexeme) → x ≡ f ++ b → Free ended f → Free ended b → Free ended x
+pub free_cut : (x f b : List Lexeme) → x ≡ f ++ b → Free ended f → Free ended b → Free ended x
 free_cut x f b e p q = let P : List Lexeme → Type 0 = λ l. Free ended l in subst P (sym e) (free_both f b p q)
 
-free_none : (x : List Lexeme) → x ≡ [] → Free ended x
+pub free_none : (x : List Lexeme) → x ≡ [] → Free ended x
 free_none x e = let P : List Lexeme → Type 0 = λ l. Free ended l in subst P (sym e) tt
 
-endless_then : {A B : Type 0} {g : Language Lexeme A} {h : A → Language Lexeme B} → Endless g → ((v : A) → Endless (h v)) → Endless (then_by g h)
+pub endless_then : {A B : Type 0} {g : Language Lexeme A} {h : A → Language Lexeme B} → Endless g → ((v : A) → Endless (h v)) → Endless (then_by g h)
 endless_then a b = record {
   spells = λ x w s. free_cut x s.front s.back s.cut (a.spells s.front w.0 s.first) ((b w.0).spells s.back w.1 s.second);
   begins = λ x c. elim c [ then_first d ↦ a.begins x d | then_second f l v cut s d ↦ free_cut x f l cut (a.spells f v s) ((b v).begins l d) ];
 }
 
-links_free : {B : Type 0} {h : Bool → Language Lexeme B} (flag : B → Bool) → ((b : Bool) → Endless (h b)) → (b : Bool) (x : List Lexeme) (w : List B) → SpellsLinks h flag b x w → Free ended x
+pub links_free : {B : Type 0} {h : Bool → Language Lexeme B} (flag : B → Bool) → ((b : Bool) → Endless (h b)) → (b : Bool) (x : List Lexeme) (w : List B) → SpellsLinks h flag b x w → Free ended x
 links_free flag a b x [] s = free_none x s
 links_free flag a b x (v ∷ vs) s = free_cut x s.0 s.1 s.2 ((a b).spells s.0 v s.3) (links_free flag a (flag v) s.1 vs s.4)
 
-endless_links : {B : Type 0} {h : Bool → Language Lexeme B} {flag : B → Bool} → ((b : Bool) → Endless (h b)) → (b : Bool) → Endless (links h flag b)
+pub endless_links : {B : Type 0} {h : Bool → Language Lexeme B} {flag : B → Bool} → ((b : Bool) → Endless (h b)) → (b : Bool) → Endless (links h flag b)
 endless_links {flag = flag} a b = record {
   spells = λ x w s. links_free flag a b x w s;
   begins = λ x s. free_cut x s.front s.back s.cut (links_free flag a b s.front s.turns s.whole) ((plain_present (a (flag_behind flag b s.turns))).begins s.back s.next);
 }
 
-and_left : (b c : Bool) → (b && c) ≡ true → b ≡ true
+pub and_left : (b c : Bool) → (b && c) ≡ true → b ≡ true
 and_left true c e = refl
 and_left false c e = e
 
-level_end : (p : ℕ) (t : Lexeme) → at (operators p) t ≡ true → ended t ≡ false
+pub level_end : (p : ℕ) (t : Lexeme) → at (operators p) t ≡ true → ended t ≡ false
 unfolding same_class
 level_end zero t i = not_end (operators 0) refl t i
 level_end (suc zero) t i = not_end (operators 1) refl t i
@@ -88,30 +88,30 @@ level_end (suc (suc (suc (suc (suc (suc (suc (suc (suc (suc p)))))))))) t i = cc
 
 -- ---- names, specifiers, pointers
 
-endless_names : {B : Type 0} {h : Language Lexeme B} → Endless h → Endless (names (pick is_name ident_of) (is k.ColonColon) h)
+pub endless_names : {B : Type 0} {h : Language Lexeme B} → Endless h → Endless (names (pick is_name ident_of) (is k.ColonColon) h)
 unfolding same_class
 endless_names a = plain_both (plain_many (behind k.ColonColon refl (endless_pick is_name ident_of refl))) a
 
-endless_fname : Endless g.fname
+pub endless_fname : Endless g.fname
 unfolding same_class
 endless_fname = plain_as _ (plain_measured _ (endless_names (plain_or (plain_as _ (endless_pick is_id ident_of refl)) (plain_as _ (before k.Operator refl
     (plain_or (plain_as _ (before k.OpenParen refl (endless_the k.CloseParen refl))) (plain_or (plain_as _ (before k.OpenBracket refl (endless_the k.CloseBracket refl))) (endless_pick is_single_operator overloaded_of refl))))))))
 
-endless_qtype : Endless g.qtype
+pub endless_qtype : Endless g.qtype
 unfolding same_class
 endless_qtype = plain_as _ (plain_measured _ (plain_both (plain_maybe (endless_the k.ColonColon refl)) (endless_names (endless_pick is_type ident_of refl))))
 
-endless_specs : Endless g.specs
+pub endless_specs : Endless g.specs
 unfolding same_class
 endless_specs = let modifier = endless_pick is_modifier modifier_of refl in
     plain_as _ (plain_measured _ (plain_such _ (plain_both (plain_many modifier) (plain_maybe (plain_or (plain_as _ (plain_both (endless_pick is_word word_of refl) (plain_many (endless_pick is_modifier_or_word either_of refl))))
     (plain_as _ (plain_both (plain_as _ (plain_both (plain_maybe (endless_pick is_elaboration elaboration_of refl)) endless_qtype)) (plain_many modifier))))))))
 
-endless_stars : Endless g.stars
+pub endless_stars : Endless g.stars
 unfolding same_class
 endless_stars = plain_upto 64 (plain_as _ (plain_measured _ (before k.Star refl (plain_maybe (endless_the k.Const refl)))))
 
-endless_ptrs : Endless g.ptrs
+pub endless_ptrs : Endless g.ptrs
 unfolding same_class
 endless_ptrs = plain_as _ (plain_both endless_stars (plain_maybe (endless_the k.Amp refl)))
 
@@ -129,11 +129,11 @@ module _ (d : g.Deeper) (e : EndlessBelow d) where
   unfolding same_class
   endless_typeid = plain_as _ (plain_measured _ (plain_both endless_specs (plain_both endless_ptrs (plain_upto 16 (plain_as _ (plain_measured _ (before k.OpenBracket refl (behind k.CloseBracket refl (plain_maybe e.cond)))))))))
 
-  in_parens : {A : Type 0} {h : Language Lexeme A} → Endless h → Endless (is k.OpenParen ⊳ h ⊲ is k.CloseParen)
+  pub in_parens : {A : Type 0} {h : Language Lexeme A} → Endless h → Endless (is k.OpenParen ⊳ h ⊲ is k.CloseParen)
   unfolding same_class
   in_parens a = before k.OpenParen refl (behind k.CloseParen refl a)
 
-  paren_args : Endless (g.paren_args d)
+  pub paren_args : Endless (g.paren_args d)
   unfolding same_class
   paren_args = plain_as _ (plain_measured _ (in_parens (plain_maybe (plain_as _ (plain_both e.assign (plain_many (before k.Comma refl e.assign)))))))
 
@@ -142,25 +142,25 @@ module _ (d : g.Deeper) (e : EndlessBelow d) where
   endless_braces = let clause = plain_or (plain_as _ e.assign) (plain_as _ e.braces) in
       plain_as _ (plain_measured _ (before k.OpenBrace refl (behind k.CloseBrace refl (plain_maybe (plain_as _ (plain_both clause (plain_as _ (plain_both (plain_many (before k.Comma refl clause)) (plain_maybe (endless_the k.Comma refl))))))))))
 
-  given : Endless (g.given d)
+  pub given : Endless (g.given d)
   given = plain_or (plain_as _ paren_args) (plain_as _ endless_braces)
 
-  head : Endless (g.head d)
+  pub head : Endless (g.head d)
   unfolding same_class
   head = let string = endless_pick is_string text_of refl in
       plain_as _ (plain_measured _ (plain_or (endless_pick is_literal literal_of refl) (plain_or (plain_as _ (plain_as _ (plain_both string (plain_many string)))) (plain_or (plain_as _ (in_parens e.expr))
       (plain_or (plain_as _ (plain_both (endless_pick is_cast_word cast_word_of refl) (plain_both (before k.Less refl (behind k.Greater refl endless_typeid)) (in_parens e.expr))))
       (plain_or (plain_as _ (plain_both (endless_pick is_word word_of refl) given)) (plain_or (plain_as _ (plain_both (plain_maybe (endless_the k.ColonColon refl)) endless_fname)) (plain_as _ (plain_both endless_qtype given)))))))))
 
-  more : Endless (g.more d)
+  pub more : Endless (g.more d)
   unfolding same_class
   more = plain_as _ (plain_measured _ (plain_or (plain_as _ (before k.OpenBracket refl (behind k.CloseBracket refl e.expr))) (plain_or (plain_as _ paren_args) (plain_or (endless_pick is_step step_of refl)
       (plain_as _ (plain_both (endless_pick is_reach reach_of refl) (plain_or (plain_as _ endless_fname) (plain_as _ (before k.Tilde refl (behind k.CloseParen refl (behind k.OpenParen refl (endless_pick is_type ident_of refl))))))))))))
 
-  postfix : Endless (g.postfix d)
+  pub postfix : Endless (g.postfix d)
   postfix = plain_as _ (plain_measured _ (plain_both head (plain_many more)))
 
-  new : Endless (g.new d)
+  pub new : Endless (g.new d)
   unfolding same_class
   new = plain_as _ (plain_measured _ (plain_both (before k.New refl endless_specs) (plain_both endless_stars (plain_both (plain_maybe (before k.OpenBracket refl (behind k.CloseBracket refl e.expr))) (plain_maybe given)))))
 
@@ -174,14 +174,14 @@ module _ (d : g.Deeper) (e : EndlessBelow d) where
   pub endless_cast : Endless (g.cast d)
   endless_cast = plain_or (plain_as _ (plain_measured _ (plain_both (in_parens endless_typeid) e.cast))) endless_unary
 
-  turn : (p : ℕ) (b : Bool) → (next : Language Lexeme Operand) → Endless next → Endless (g.turn d p next b)
+  pub turn : (p : ℕ) (b : Bool) → (next : Language Lexeme Operand) → Endless next → Endless (g.turn d p next b)
   turn p b next a = plain_both (plain_one (pick (allowed p b) binary_of) (λ t v i. level_end p t (and_left (operators p t.class) (not (b && is_after_new t.class)) (pick_fits (allowed p b) binary_of t v i)))) a
 
   pub endless_chain : (p : ℕ) → Endless (g.chain d p)
   endless_chain zero = endless_cast
   endless_chain (suc p) = plain_as _ (plain_measured _ (endless_then (endless_chain p) (λ first. endless_links (λ b. turn p b (g.chain d p) (endless_chain p)) first.1)))
 
-  choice : Endless (g.choice d)
+  pub choice : Endless (g.choice d)
   unfolding same_class
   choice = plain_both (before k.Question refl (behind k.Colon refl e.expr)) e.assign
 

@@ -16,16 +16,16 @@ use Rattle.cx_syntax.proofs.Exprs as exprs
 use Rattle.cx_syntax.proofs.Near.{near}
 
 module _ (left : ℕ) (d : Sound left) where
-  unary_at : Exactly (λ n. g.unary (g.deeper n)) (goes_operand 0) left (r.unary (r.deeper left))
+  pub unary_at : Exactly (λ n. g.unary (g.deeper n)) (goes_operand 0) left (r.unary (r.deeper left))
   unary_at = sizes.exactly_unary near left d
 
-  cast_at : Exactly (λ n. g.cast (g.deeper n)) (goes_operand 0) left (r.cast (r.deeper left))
+  pub cast_at : Exactly (λ n. g.cast (g.deeper n)) (goes_operand 0) left (r.cast (r.deeper left))
   cast_at = exactly_cast left d unary_at
 
-  chain_at : (p : ℕ) → Exactly (λ n. g.chain (g.deeper n) p) (goes_operand p) left (r.chain (r.deeper left) p)
+  pub chain_at : (p : ℕ) → Exactly (λ n. g.chain (g.deeper n) p) (goes_operand p) left (r.chain (r.deeper left) p)
   chain_at = chains.exactly_chain left cast_at
 
-none_there : (r.deeper 0).room ≡ true → ⊥
+pub none_there : (r.deeper 0).room ≡ true → ⊥
 unfolding r.deeper
 none_there e = cc
 

@@ -21,11 +21,11 @@ use Rattle.cx_syntax.proofs.Chains.{chain_stays}
 use Rattle.cx_syntax.proofs.TypeOrExpr.{postfix_unary, unary_cast, cast_chain, chain_expr}
 
 -- the operators of the levels below
-abbrev level_in : ℕ → Class → Bool
+abbrev pub level_in : ℕ → Class → Bool
 level_in zero c = false
 level_in (suc p) c = level_in p c || operators p c
 
-or_either : {P : Type 0} (b c : Bool) → (b || c) ≡ true → (b ≡ true → P) → (c ≡ true → P) → P
+pub or_either : {P : Type 0} (b c : Bool) → (b || c) ≡ true → (b ≡ true → P) → (c ≡ true → P) → P
 or_either true c e f h = f refl
 or_either false c e f h = h e
 
@@ -38,41 +38,41 @@ module _ (n : ℕ) (x : List Lexeme) (w : ExprKind) (s : (g.id_expression (g.dee
   abbrev whole_head : Expr
   whole_head = expr_of (w, span_of x)
 
-  head_spelled : (g.head (g.deeper (suc n))).spells x whole_head
+  pub head_spelled : (g.head (g.deeper (suc n))).spells x whole_head
   head_spelled = record { value = (w, span_of x); made = refl; part = record { part = inr (inr (inr (inr (inr (inl s))))); measure = refl } }
 
-  postfix_spelled : (g.postfix (g.deeper (suc n))).spells x whole_head
+  pub postfix_spelled : (g.postfix (g.deeper (suc n))).spells x whole_head
   postfix_spelled = record { value = ((whole_head, []), span_of x); made = refl; part = record { part = record { front = x; back = []; cut = sym (append-nil x); first = head_spelled; second = refl }; measure = refl } }
 
-  cast_spelled : (g.cast (g.deeper (suc n))).spells x (whole_head, false)
+  pub cast_spelled : (g.cast (g.deeper (suc n))).spells x (whole_head, false)
   cast_spelled = inr (inr (inr (inr (inr (inr (record { value = whole_head; made = refl; part = postfix_spelled }))))))
 
-  chain_spelled : (p : ℕ) → (g.chain (g.deeper (suc n)) p).spells x (whole_head, false)
+  pub chain_spelled : (p : ℕ) → (g.chain (g.deeper (suc n)) p).spells x (whole_head, false)
   chain_spelled zero = cast_spelled
   chain_spelled (suc p) = record { value = (((whole_head, false), []), span_of x); made = refl; part = record { part = record { front = x; back = []; cut = sym (append-nil x); first = chain_spelled p; second = refl }; measure = refl } }
 
-  assign_spelled : (g.assign (g.deeper (suc n))).spells x whole_head
+  pub assign_spelled : (g.assign (g.deeper (suc n))).spells x whole_head
   assign_spelled = inr (record { value = (((whole_head, false), None), span_of x); made = refl; part = record { part = record { front = x; back = []; cut = sym (append-nil x); first = chain_spelled 10; second = inl (record { value = tt; made = refl; part = refl }) }; measure = refl } })
 
-  expr_spelled : (g.expr (g.deeper (suc n))).spells x whole_head
+  pub expr_spelled : (g.expr (g.deeper (suc n))).spells x whole_head
   expr_spelled = record { value = ((whole_head, []), span_of x); made = refl; part = record { part = record { front = x; back = []; cut = sym (append-nil x); first = assign_spelled; second = refl }; measure = refl } }
 
   module _ (f : Lexeme) where
-    more_begun : at starts_more f ≡ true → (g.more (g.deeper (suc n))).begins (f ∷ [])
+    pub more_begun : at starts_more f ≡ true → (g.more (g.deeper (suc n))).begins (f ∷ [])
     unfolding same_class
     more_begun e = or_begins (just k.OpenBracket f.class) (h.starts_call_or_more f.class) (sub starts_more (λ c. just k.OpenBracket c || h.starts_call_or_more c) refl f e)
         (λ i. some refl (begun_by (λ m. (g.deeper m).expr ⊲ is k.CloseBracket) (is k.OpenBracket) f i (suc n)))
         (λ i. some refl (or_begins (just k.OpenParen f.class) (h.starts_step_or_member f.class) i (λ j. some refl (begun_by (λ m. maybe (g.args (g.deeper m)) ⊲ is k.CloseParen) (is k.OpenParen) f j (suc n)))
         (λ j. some refl (or_begins (is_step f.class) (is_reach f.class) j (λ o. some refl (begun_pick is_step step_of f o)) (λ o. some refl (in_first (begun_pick is_reach reach_of f o)))))))
 
-    chain_begun : (x : List Lexeme) → (g.chain (g.deeper (suc n)) 10).begins x → (g.expr (g.deeper (suc n))).begins x
+    pub chain_begun : (x : List Lexeme) → (g.chain (g.deeper (suc n)) 10).begins x → (g.expr (g.deeper (suc n))).begins x
     chain_begun x b = chain_expr (suc n) x (in_first b)
 
-    behind_more : at starts_more f ≡ true → (g.expr (g.deeper (suc n))).begins (x ++ f ∷ [])
+    pub behind_more : at starts_more f ≡ true → (g.expr (g.deeper (suc n))).begins (x ++ f ∷ [])
     behind_more e = chain_begun (x ++ f ∷ []) (cast_chain (suc n) 10 (x ++ f ∷ []) (unary_cast (suc n) (x ++ f ∷ []) (postfix_unary (suc n) (x ++ f ∷ [])
         (in_second x (f ∷ []) whole_head refl head_spelled (record { front = []; back = f ∷ []; cut = refl; turns = []; whole = refl; next = some refl (more_begun e) })))))
 
-    chain_next : (p : ℕ) → level_in p f.class ≡ true → (g.chain (g.deeper (suc n)) p).begins (x ++ f ∷ [])
+    pub chain_next : (p : ℕ) → level_in p f.class ≡ true → (g.chain (g.deeper (suc n)) p).begins (x ++ f ∷ [])
     chain_next zero e = absurd (let c : false ≡ true = e in cc)
     chain_next (suc p) e = or_either (level_in p f.class) (operators p f.class) e (λ i. then_first (chain_next p i))
         (λ i. then_second x (f ∷ []) (whole_head, false) refl (chain_spelled p) (record {
@@ -84,12 +84,12 @@ module _ (n : ℕ) (x : List Lexeme) (w : ExprKind) (s : (g.id_expression (g.dee
           next = some (chain_stays p (suc n)) (in_first (begun_pick (allowed p false) binary_of f (both_true (operators p f.class) (not (false && is_after_new f.class)) i refl)));
         }))
 
-    tail_begun : at starts_tail f ≡ true → (g.expr (g.deeper (suc n))).begins (x ++ f ∷ [])
+    pub tail_begun : at starts_tail f ≡ true → (g.expr (g.deeper (suc n))).begins (x ++ f ∷ [])
     unfolding same_class
     tail_begun e = chain_expr (suc n) (x ++ f ∷ []) (in_second x (f ∷ []) (whole_head, false) refl (chain_spelled 10) (inr (some refl (or_begins (is_assignment f.class) (just k.Question f.class)
         (sub starts_tail (λ c. is_assignment c || just k.Question c) refl f e) (λ i. some refl (in_first (begun_pick is_assignment assignment_of f i))) (λ i. some refl (in_first (begun_by (λ m. (g.deeper m).expr ⊲ is k.Colon) (is k.Question) f i (suc n))))))))
 
-    comma_begun : at (just k.Comma) f ≡ true → (g.expr (g.deeper (suc n))).begins (x ++ f ∷ [])
+    pub comma_begun : at (just k.Comma) f ≡ true → (g.expr (g.deeper (suc n))).begins (x ++ f ∷ [])
     comma_begun e = in_second x (f ∷ []) whole_head refl assign_spelled (record { front = []; back = f ∷ []; cut = refl; turns = []; whole = refl; next = some refl (begun_by (λ m. g.assign (g.deeper m)) (is k.Comma) f e (suc n)) })
 
     abbrev InParens : Type 0

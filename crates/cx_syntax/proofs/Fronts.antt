@@ -49,7 +49,7 @@ short_sub k s = record { only = λ n x y v e z. let p = s.only n x y v e z in (p
 -- ---- what an exact reader says
 
 module _ {T A : Type 0} (L : Family T A) (q p : T → Bool) (least : ℕ) (ts : List T) (k : Sub q p) where
-  goes_blocked : (w : A) (y : List T) → GoesOn (by q) w y → Blocked p y
+  pub goes_blocked : (w : A) (y : List T) → GoesOn (by q) w y → Blocked p y
   goes_blocked w [] h = absurd h
   goes_blocked w (u ∷ y) h = λ t r e. let same_token : u ≡ t = cc in subst (λ z. p z ≡ true) same_token (k u h)
 
@@ -70,18 +70,18 @@ module _ {T A : Type 0} (L : Family T A) (q p : T → Bool) (least : ℕ) (ts : 
 
 -- ---- where the language begins with other tokens
 
-sees_head : {T : Type 0} (p : T → Bool) (ts : List T) (t : T) (x : List T) → ts ≡ t ∷ x → sees p ts ≡ p t
+pub sees_head : {T : Type 0} (p : T → Bool) (ts : List T) (t : T) (x : List T) → ts ≡ t ∷ x → sees p ts ≡ p t
 sees_head p ts t x e = ap (sees p) e
 
 module _ {T A : Type 0} {L : Family T A} {p : T → Bool} (h : Heads L p) (ts : List T) (unseen : sees p ts ≡ false) where
-  first_not : (t : T) (x y : List T) → ts ≡ t ∷ (x ++ y) → p t ≡ true → ⊥
+  pub first_not : (t : T) (x y : List T) → ts ≡ t ∷ (x ++ y) → p t ≡ true → ⊥
   first_not t x y e s = not_both s (sym (sees_head p ts t (x ++ y) e) ∙ unseen)
 
-  elsewhere_spelled : (n : ℕ) (x y : List T) (w : A) → ts ≡ x ++ y → (L n).spells x w → ⊥
+  pub elsewhere_spelled : (n : ℕ) (x y : List T) (w : A) → ts ≡ x ++ y → (L n).spells x w → ⊥
   elsewhere_spelled n [] y w e s = h.full n w s
   elsewhere_spelled n (t ∷ x) y w e s = first_not t x y e (h.spells n t x w s)
 
-  elsewhere_begun : (used : List T) (n : ℕ) (x y : List T) → ts ≡ x ++ y → (L n).begins x → Within used x
+  pub elsewhere_begun : (used : List T) (n : ℕ) (x y : List T) → ts ≡ x ++ y → (L n).begins x → Within used x
   elsewhere_begun used n [] y e b = none_front used [] refl
   elsewhere_begun used n (t ∷ x) y e b = absurd (first_not t x y e (h.begins n t x b))
 
@@ -125,15 +125,15 @@ never_present {used = used} s = record { only = s.only; ends = λ n x y e b. eli
 
 -- one part and then another
 module _ {T A B : Type 0} {G : Family T A} {H : Family T B} {q p : T → Bool} {ts used : List T} (g : Short G q ts used) (o : Opens H p) (a : Apart q p) where
-  from_front : (n : ℕ) (f k x y : List T) (w : B) → x ≡ f ++ k → Within used f → Blocked q (k ++ y) → (H n).spells k w → Within used x × Blocked q y
+  pub from_front : (n : ℕ) (f k x y : List T) (w : B) → x ≡ f ++ k → Within used f → Blocked q (k ++ y) → (H n).spells k w → Within used x × Blocked q y
   from_front n f [] x y w cut within blocked s = (subst (Within used) (sym (cut ∙ append-nil f)) within, blocked)
   from_front n f (t ∷ k) x y w cut within blocked s = absurd (a t (blocked t (k ++ y) refl) (o.spells n t k w s))
 
-  ends_front : (n : ℕ) (f k x y : List T) → x ≡ f ++ k → Within used f → Blocked q (k ++ y) → (H n).begins k → Within used x
+  pub ends_front : (n : ℕ) (f k x y : List T) → x ≡ f ++ k → Within used f → Blocked q (k ++ y) → (H n).begins k → Within used x
   ends_front n f [] x y cut within blocked s = subst (Within used) (sym (cut ∙ append-nil f)) within
   ends_front n f (t ∷ k) x y cut within blocked s = absurd (a t (blocked t (k ++ y) refl) (o.begins n t k s))
 
-  cut_front : (x y f k : List T) → ts ≡ x ++ y → x ≡ f ++ k → ts ≡ f ++ (k ++ y)
+  pub cut_front : (x y f k : List T) → ts ≡ x ++ y → x ≡ f ++ k → ts ≡ f ++ (k ++ y)
   cut_front x y f k e cut = e ∙ (ap (λ l. l ++ y) cut ∙ append_assoc f k y)
 
   pub short_both : Short (λ n. G n >> H n) q ts used
@@ -147,7 +147,7 @@ module _ {T A B : Type 0} {G : Family T A} {H : Family T B} {q p : T → Bool} {
 
 -- a second part that is never empty is not spelled
 module _ {T A B : Type 0} {G : Family T A} {H : Family T B} {q p : T → Bool} {ts used : List T} (g : Short G q ts used) (h : Heads H p) (a : Apart q p) where
-  ended : (n : ℕ) (k y : List T) (w : B) → Blocked q (k ++ y) → (H n).spells k w → ⊥
+  pub ended : (n : ℕ) (k y : List T) (w : B) → Blocked q (k ++ y) → (H n).spells k w → ⊥
   ended n [] y w blocked s = h.full n w s
   ended n (t ∷ k) y w blocked s = a t (blocked t (k ++ y) refl) (h.spells n t k w s)
 
@@ -166,14 +166,14 @@ never_both H g = record {
 
 -- a first part that may be empty, and whose tokens are not there
 module _ {T A B : Type 0} {G : Family T A} {H : Family T B} {q p : T → Bool} {ts used : List T} (o : Opens G p) (unseen : sees p ts ≡ false) (h : Short H q ts used) where
-  not_first : (t : T) (x y : List T) → ts ≡ (t ∷ x) ++ y → p t ≡ true → ⊥
+  pub not_first : (t : T) (x y : List T) → ts ≡ (t ∷ x) ++ y → p t ≡ true → ⊥
   not_first t x y e s = not_both s (sym (sees_head p ts t (x ++ y) e) ∙ unseen)
 
-  skip_front : (n : ℕ) (f k x y : List T) (v : A) → ts ≡ x ++ y → x ≡ f ++ k → (G n).spells f v → x ≡ k
+  pub skip_front : (n : ℕ) (f k x y : List T) (v : A) → ts ≡ x ++ y → x ≡ f ++ k → (G n).spells f v → x ≡ k
   skip_front n [] k x y v e cut s = cut
   skip_front n (t ∷ f) k x y v e cut s = absurd (not_first t (f ++ k) y (e ∙ ap (λ l. l ++ y) cut) (o.spells n t f v s))
 
-  skip_begun : (n : ℕ) (x y : List T) → ts ≡ x ++ y → (G n).begins x → Within used x
+  pub skip_begun : (n : ℕ) (x y : List T) → ts ≡ x ++ y → (G n).begins x → Within used x
   skip_begun n [] y e b = none_front used [] refl
   skip_begun n (t ∷ x) y e b = absurd (not_first t x y e (o.begins n t x b))
 
@@ -189,11 +189,11 @@ module _ {T A B : Type 0} {G : Family T A} {H : Family T B} {q p : T → Bool} {
 
 -- a part with what may follow its value
 module _ {T A B : Type 0} {G : Family T A} (H : A → Family T B) {q p : T → Bool} {ts used : List T} (g : Short G q ts used) (o : (v : A) → Opens (H v) p) (a : Apart q p) where
-  then_front : (n : ℕ) (v : A) (f k x y : List T) (w : B) → x ≡ f ++ k → Within used f → Blocked q (k ++ y) → (H v n).spells k w → Within used x × Blocked q y
+  pub then_front : (n : ℕ) (v : A) (f k x y : List T) (w : B) → x ≡ f ++ k → Within used f → Blocked q (k ++ y) → (H v n).spells k w → Within used x × Blocked q y
   then_front n v f [] x y w cut within blocked s = (subst (Within used) (sym (cut ∙ append-nil f)) within, blocked)
   then_front n v f (t ∷ k) x y w cut within blocked s = absurd (a t (blocked t (k ++ y) refl) ((o v).spells n t k w s))
 
-  then_ends : (n : ℕ) (v : A) (f k x y : List T) → x ≡ f ++ k → Within used f → Blocked q (k ++ y) → (H v n).begins k → Within used x
+  pub then_ends : (n : ℕ) (v : A) (f k x y : List T) → x ≡ f ++ k → Within used f → Blocked q (k ++ y) → (H v n).begins k → Within used x
   then_ends n v f [] x y cut within blocked s = subst (Within used) (sym (cut ∙ append-nil f)) within
   then_ends n v f (t ∷ k) x y cut within blocked s = absurd (a t (blocked t (k ++ y) refl) ((o v).begins n t k s))
 
@@ -208,17 +208,17 @@ module _ {T A B : Type 0} {G : Family T A} (H : A → Family T B) {q p : T → B
 
 -- a token before a part
 module _ {T A : Type 0} {G : Family T A} (p : T → Bool) (t : T) {u used : List T} (g : Never G u used) where
-  led_spelled : (n : ℕ) (x y f k : List T) (w : A) (v : Unit {0}) → t ∷ u ≡ x ++ y → x ≡ f ++ k → (the p).spells f v → (G n).spells k w → ⊥
+  pub led_spelled : (n : ℕ) (x y f k : List T) (w : A) (v : Unit {0}) → t ∷ u ≡ x ++ y → x ≡ f ++ k → (the p).spells f v → (G n).spells k w → ⊥
   led_spelled n x y f k w v e cut s z = let alone = s.alone in let c : t ∷ u ≡ s.token ∷ (k ++ y) = e ∙ (ap (λ l. l ++ y) (cut ∙ ap (λ l. l ++ k) alone)) in let tails : u ≡ k ++ y = cc in g.only n k y w tails z
 
-  led_front : (x f : List T) (s : T) → x ≡ f → f ≡ s ∷ [] → (y : List T) → t ∷ u ≡ x ++ y → Within (t ∷ used) x
+  pub led_front : (x f : List T) (s : T) → x ≡ f → f ≡ s ∷ [] → (y : List T) → t ∷ u ≡ x ++ y → Within (t ∷ used) x
   led_front x f s e alone y c = let d : t ∷ u ≡ s ∷ y = c ∙ ap (λ l. l ++ y) (e ∙ alone) in let heads : t ≡ s = cc in (used, ap (λ z. z ∷ used) heads ∙ sym (ap (λ l. l ++ used) (e ∙ alone)))
 
-  led_first : (n : ℕ) (x y : List T) → t ∷ u ≡ x ++ y → (the p).begins x → Within (t ∷ used) x
+  pub led_first : (n : ℕ) (x y : List T) → t ∷ u ≡ x ++ y → (the p).begins x → Within (t ∷ used) x
   led_first n x y e (nothing c) = none_front (t ∷ used) x c
   led_first n x y e (whole v s) = led_front x x s.token refl s.alone y e
 
-  led_second : (n : ℕ) (x y f k : List T) (s : T) → t ∷ u ≡ x ++ y → x ≡ f ++ k → f ≡ s ∷ [] → (G n).begins k → Within (t ∷ used) x
+  pub led_second : (n : ℕ) (x y f k : List T) (s : T) → t ∷ u ≡ x ++ y → x ≡ f ++ k → f ≡ s ∷ [] → (G n).begins k → Within (t ∷ used) x
   led_second n x y f k s e cut alone b =
       let c : x ≡ s ∷ k = cut ∙ ap (λ l. l ++ k) alone in
       let d : t ∷ u ≡ s ∷ (k ++ y) = e ∙ ap (λ l. l ++ y) c in
@@ -233,11 +233,11 @@ module _ {T A : Type 0} {G : Family T A} (p : T → Bool) (t : T) {u used : List
 
 -- one level deeper
 module _ {T A : Type 0} {K L : Family T A} (b : Below K L) (ts used : List T) where
-  below_ends : (g : (n : ℕ) (x y : List T) → ts ≡ x ++ y → (L n).begins x → Within used x) (n : ℕ) (x y : List T) → ts ≡ x ++ y → (K n).begins x → Within used x
+  pub below_ends : (g : (n : ℕ) (x y : List T) → ts ≡ x ++ y → (L n).begins x → Within used x) (n : ℕ) (x y : List T) → ts ≡ x ++ y → (K n).begins x → Within used x
   below_ends g zero x y e s = none_front used x (subst (λ (l : Language T A). l.begins x) b.none s)
   below_ends g (suc n) x y e s = g n x y e (subst (λ (l : Language T A). l.begins x) (b.one_less n) s)
 
-  below_only : (P : List T → List T → Type 0) → ((n : ℕ) (x y : List T) (w : A) → ts ≡ x ++ y → (L n).spells x w → P x y) → (n : ℕ) (x y : List T) (w : A) → ts ≡ x ++ y → (K n).spells x w → P x y
+  pub below_only : (P : List T → List T → Type 0) → ((n : ℕ) (x y : List T) (w : A) → ts ≡ x ++ y → (L n).spells x w → P x y) → (n : ℕ) (x y : List T) (w : A) → ts ≡ x ++ y → (K n).spells x w → P x y
   below_only P g zero x y w e s = absurd (subst (λ (l : Language T A). l.spells x w) b.none s)
   below_only P g (suc n) x y w e s = g n x y w e (subst (λ (l : Language T A). l.spells x w) (b.one_less n) s)
 

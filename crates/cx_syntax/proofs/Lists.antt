@@ -43,7 +43,7 @@ unfolding r.deeper
 deep zero e = cc
 deep (suc n) e = omega arith
 
-stays_from : {A : Type 0} (G : Family Lexeme A) → ((n : ℕ) → (G (suc n)).stays ≡ true) → (n : ℕ) → 1 ≤ n → (G n).stays ≡ true
+pub stays_from : {A : Type 0} (G : Family Lexeme A) → ((n : ℕ) → (G (suc n)).stays ≡ true) → (n : ℕ) → 1 ≤ n → (G n).stays ≡ true
 stays_from G s zero p = absurd (omega arith)
 stays_from G s (suc n) p = s n
 
@@ -51,7 +51,7 @@ stays_from G s (suc n) p = s n
 pub exactly_deep : {A : Type 0} {G : Family Lexeme A} {go : A → Lexeme → Bool} {left : ℕ} {read : Reader Lexeme A} → 1 ≤ left → ((n : ℕ) → (G (suc n)).stays ≡ true) → Exactly G go left read → Exactly (λ n. present (G n)) go left read
 exactly_deep {G = G} {go = go} {left = left} {read = read} some_left s g = record { at = λ ts. exact_present G go left ts (read ts) (λ n p. let l : 1 ≤ n = omega arith in stays_from G s n l) (g.at ts) }
 
-abbrev behind_specs : Class → Bool
+abbrev pub behind_specs : Class → Bool
 behind_specs c = goes_ptrs c || just k.OpenBracket c
 
 abbrev pub heads_behind_specs : Class → Bool
@@ -64,7 +64,7 @@ opens_declarator = opens_both (opens_sub (sub starts_ptrs heads_behind_specs ref
 module _ (left : ℕ) (d : Sound left) where
   -- ---- types
 
-  cond_at : ExactlyAt (at starts_unary) (λ n. present (g.deeper n).cond) (by (at goes_assign)) left (guarded (r.deeper left).room (r.deeper left).cond)
+  pub cond_at : ExactlyAt (at starts_unary) (λ n. present (g.deeper n).cond) (by (at goes_assign)) left (guarded (r.deeper left).room (r.deeper left).cond)
   cond_at = exactly_on (at starts_unary) (guarded (r.deeper left).room (r.deeper left).cond) (λ t ts h. marked (λ n. (r.deeper n).room) room left (cond_marked t h) d.cond)
 
   pub exactly_bound : Exactly (λ n. g.bound (g.deeper n)) (by never) left (r.bound (r.deeper left))
@@ -72,10 +72,10 @@ module _ (left : ℕ) (d : Sound left) where
   exactly_bound = exactly_as bound_of (exactly_measured span_of (exactly_before (is k.OpenBracket) (exactly_behind (is k.CloseBracket)
       (exactly_maybe (at goes_assign) heads_deep_cond cond_at (same_sub (at goes_assign)) (sub starts_unary goes_assign refl)) (apart goes_assign (just k.CloseBracket) refl))))
 
-  exactly_bounds : Exactly (λ n. upto 16 (g.bound (g.deeper n))) (by (at (just k.OpenBracket))) left (r.bounds (r.deeper left))
+  pub exactly_bounds : Exactly (λ n. upto 16 (g.bound (g.deeper n))) (by (at (just k.OpenBracket))) left (r.bounds (r.deeper left))
   exactly_bounds = exactly_upto (at (just k.OpenBracket)) heads_bound (present_at refl (λ n. refl) exactly_bound) (never_sub (is k.OpenBracket)) (same_sub (is k.OpenBracket)) 16 (never_apart (is k.OpenBracket))
 
-  exactly_declarator : Exactly (λ n. g.ptrs >> upto 16 (g.bound (g.deeper n))) (by (at behind_specs)) left (r.declarator (r.deeper left))
+  pub exactly_declarator : Exactly (λ n. g.ptrs >> upto 16 (g.bound (g.deeper n))) (by (at behind_specs)) left (r.declarator (r.deeper left))
   unfolding same_class
   exactly_declarator = exactly_open (at behind_specs) (exactly_ptrs left) exactly_bounds (opens_upto heads_bound 16) (apart goes_ptrs (just k.OpenBracket) refl) (sub goes_ptrs behind_specs refl) (sub (just k.OpenBracket) behind_specs refl)
 
@@ -86,12 +86,12 @@ module _ (left : ℕ) (d : Sound left) where
 
   -- ---- lists
 
-  args_there : (r.deeper left).room ≡ true → Exactly (λ n. g.args (g.deeper n)) (by (at goes_args)) left (separated_by (is k.Comma) (r.deeper left).assign)
+  pub args_there : (r.deeper left).room ≡ true → Exactly (λ n. g.args (g.deeper n)) (by (at goes_args)) left (separated_by (is k.Comma) (r.deeper left).assign)
   unfolding same_class
   args_there there = exactly_separated (at goes_args) heads_deep_assign (is k.Comma) (d.assign there)
       (present_deep (deep left there) (λ n. refl) (exactly_before (is k.Comma) (d.assign there))) (apart goes_assign (just k.Comma) refl) (sub goes_assign goes_args refl) (sub (just k.Comma) goes_args refl)
 
-  args_at : ExactlyAt (at starts_assign) (λ n. present (g.args (g.deeper n))) (by (at goes_args)) left (r.args (r.deeper left))
+  pub args_at : ExactlyAt (at starts_assign) (λ n. present (g.args (g.deeper n))) (by (at goes_args)) left (r.args (r.deeper left))
   unfolding r.args
   args_at = exactly_on (at starts_assign) (r.args (r.deeper left)) (λ t ts h. marked (λ n. (r.deeper n).room) room left (args_marked t h) args_there)
 
@@ -100,23 +100,23 @@ module _ (left : ℕ) (d : Sound left) where
   exactly_paren_args = exactly_as args_of (exactly_measured span_of (exactly_before (is k.OpenParen) (exactly_behind (is k.CloseParen)
       (exactly_maybe (at goes_args) heads_args args_at (same_sub (at goes_args)) (sub starts_assign goes_args refl)) (apart goes_args (just k.CloseParen) refl))))
 
-  exactly_clause : (r.deeper left).room ≡ true → Exactly (λ n. g.clause (g.deeper n)) (by (at goes_assign)) left (r.clause (r.deeper left))
+  pub exactly_clause : (r.deeper left).room ≡ true → Exactly (λ n. g.clause (g.deeper n)) (by (at goes_assign)) left (r.clause (r.deeper left))
   unfolding r.clause same_class
   exactly_clause there = exactly_same (swapped (λ n. clauses.Braces <$> (g.deeper n).braces) (λ n. clauses.Expr <$> (g.deeper n).assign))
       (exactly_choice (just k.OpenBrace) starts_assign refl (heads_as clauses.Braces heads_deep_braces) (heads_as clauses.Expr heads_deep_assign)
       (present_deep (deep left there) (λ n. refl) (exactly_as clauses.Braces (exactly_widened (never_sub (at goes_assign)) (d.braces there))))
       (exactly_deep (deep left there) (λ n. refl) (exactly_as clauses.Expr (d.assign there))))
 
-  clause_stays : (r.deeper left).room ≡ true → (n : ℕ) → left ≤ n → (g.clause (g.deeper n)).stays ≡ true
+  pub clause_stays : (r.deeper left).room ≡ true → (n : ℕ) → left ≤ n → (g.clause (g.deeper n)).stays ≡ true
   clause_stays there zero p = let l = deep left there in absurd (omega arith)
   clause_stays there (suc n) p = refl
 
-  clauses_there : (r.deeper left).room ≡ true → Exactly (λ n. trailed (is k.Comma) (g.clause (g.deeper n))) (by (at goes_clauses)) left (trailed_by (is k.Comma) (at starts_clause) (r.clause (r.deeper left)))
+  pub clauses_there : (r.deeper left).room ≡ true → Exactly (λ n. trailed (is k.Comma) (g.clause (g.deeper n))) (by (at goes_clauses)) left (trailed_by (is k.Comma) (at starts_clause) (r.clause (r.deeper left)))
   unfolding same_class
   clauses_there there = exactly_trailed (at goes_clauses) heads_clause (exactly_clause there) (clause_stays there) (apart goes_assign (just k.Comma) refl) (sub goes_assign goes_clauses refl)
       (sub (just k.Comma) goes_clauses refl) (sub starts_clause goes_clauses refl)
 
-  clauses_at : ExactlyAt (at starts_clause) (λ n. present (trailed (is k.Comma) (g.clause (g.deeper n)))) (by (at goes_clauses)) left (r.clauses_in (r.deeper left))
+  pub clauses_at : ExactlyAt (at starts_clause) (λ n. present (trailed (is k.Comma) (g.clause (g.deeper n)))) (by (at goes_clauses)) left (r.clauses_in (r.deeper left))
   unfolding r.clauses_in
   clauses_at = exactly_on (at starts_clause) (r.clauses_in (r.deeper left)) (λ t ts h. marked (λ n. (r.deeper n).room) room left (clauses_marked t h) clauses_there)
 

@@ -27,11 +27,11 @@ use Rattle.cx_syntax.proofs.Names.{exactly_op}
 use Rattle.cx_syntax.proofs.Beside.{reach, reach_within}
 use Rattle.cx_syntax.proofs.Ahead.{two, bare_end, type_behind, name_behind, scopes_then, scope_step, scopes_end, reach_made, and_first, and_second, no_second, qtype_made, name_made, reach_name, qtype_plain, name_plain, qtype_global, name_global}
 
-abbrev fault : Bool → (Class → Bool) → List Lexeme → Outcome Lexeme Operand
+abbrev pub fault : Bool → (Class → Bool) → List Lexeme → Outcome Lexeme Operand
 fault behind goes ts = name_fault behind goes ts
 
 -- What the names say of the two readings, and where the fault is.
-data Faulted (goes : Class → Bool) (ts : List Lexeme) (ahead : Option (List Lexeme)) (a : Outcome Lexeme (List Ident × Ident)) (b : Outcome Lexeme (List Ident × Last)) (o : Outcome Lexeme Operand) : Type 0 where
+pub data Faulted (goes : Class → Bool) (ts : List Lexeme) (ahead : Option (List Lexeme)) (a : Outcome Lexeme (List Ident × Ident)) (b : Outcome Lexeme (List Ident × Last)) (o : Outcome Lexeme Operand) : Type 0 where
   at_type : (rest : List Lexeme) (v : List Ident × Ident) → ahead ≡ Some rest → a ≡ done v rest → o ≡ fault_at starts_given rest → Faulted goes ts ahead a b o
   at_id : (rest : List Lexeme) (w : List Ident × Last) → a ≡ stop Syntax (length rest) → b ≡ done w rest → o ≡ fault_at follows_name rest → Faulted goes ts ahead a b o
   at_scope : (front rest : List Lexeme) → ts ≡ front ++ rest → sees (at is_name) ts ≡ true → a ≡ stop Syntax (length rest) → o ≡ fault_at is_operator_word rest
@@ -42,11 +42,11 @@ data Faulted (goes : Class → Bool) (ts : List Lexeme) (ahead : Option (List Le
 -- ---- the last name
 
 -- an operator's token is passed
-reach_operator : (o : Outcome Lexeme Overloaded) → reach (made last.Operator (made (λ (pair : Unit {0} × Overloaded). pair.1) (made (λ v. (tt, v)) o))) ≡ reach o
+pub reach_operator : (o : Outcome Lexeme Overloaded) → reach (made last.Operator (made (λ (pair : Unit {0} × Overloaded). pair.1) (made (λ v. (tt, v)) o))) ≡ reach o
 reach_operator (done v rest) = refl
 reach_operator (stop rule left) = refl
 
-operator_read : (t : Lexeme) (rest : List Lexeme) → at is_operator_word t ≡ true → reach (r.last_part (t ∷ rest)) ≤ length rest
+pub operator_read : (t : Lexeme) (rest : List Lexeme) → at is_operator_word t ≡ true → reach (r.last_part (t ∷ rest)) ≤ length rest
 unfolding r.last_part same_class
 operator_read t rest e =
     let not_id = false_of (is_id t.class) (λ i. apart is_operator_word is_id refl t e i) in
@@ -58,7 +58,7 @@ operator_read t rest e =
     let w = reach_within (λ n. g.op) (by never) 0 rest (r.op rest) ((exactly_op 0).at rest) in omega arith
 
 -- what is neither a name nor an operator is the fault
-other_read : (t : Lexeme) (rest : List Lexeme) → is_name t.class ≡ false → at is_operator_word t ≡ false → r.last_part (t ∷ rest) ≡ stop Syntax (length (t ∷ rest))
+pub other_read : (t : Lexeme) (rest : List Lexeme) → is_name t.class ≡ false → at is_operator_word t ≡ false → r.last_part (t ∷ rest) ≡ stop Syntax (length (t ∷ rest))
 unfolding r.last_part same_class
 other_read t rest e f =
     let not_id = false_of (is_id t.class) (λ i. let n = sub is_id is_name refl t i in let both : true ≡ false = sym n ∙ e in cc) in
@@ -68,28 +68,28 @@ other_read t rest e f =
 
 -- ---- no name with `::` behind it comes next
 
-abbrev goes_behind : Bool → Class → Bool
+abbrev pub goes_behind : Bool → Class → Bool
 goes_behind b = if b then starts_given else follows_name
 
-fault_behind : (goes : Class → Bool) (rest : List Lexeme) → sees (is k.ColonColon) rest ≡ false → fault true goes rest ≡ fault_at goes rest
+pub fault_behind : (goes : Class → Bool) (rest : List Lexeme) → sees (is k.ColonColon) rest ≡ false → fault true goes rest ≡ fault_at goes rest
 fault_behind goes [] e = refl
 fault_behind goes (u ∷ rest) e = ap (λ b. if b then fault false is_operator_word rest else fault_at goes (u ∷ rest)) e
 
-abbrev type_end : Bool → Bool → Lexeme → List Lexeme → Outcome Lexeme Ident
+abbrev pub type_end : Bool → Bool → Lexeme → List Lexeme → Outcome Lexeme Ident
 type_end b c t rest = if c && not b then refuse rest else token_by (if b then Some (ident_of t) else None) t rest
 
-abbrev name_end : Bool → Bool → Lexeme → List Lexeme → Outcome Lexeme Last
+abbrev pub name_end : Bool → Bool → Lexeme → List Lexeme → Outcome Lexeme Last
 name_end b c t rest = if c && not b then refuse rest else r.last_part (t ∷ rest)
 
-id_done : (t : Lexeme) (rest : List Lexeme) → is_id t.class ≡ true → r.last_part (t ∷ rest) ≡ done (last.Ident (ident_of t)) rest
+pub id_done : (t : Lexeme) (rest : List Lexeme) → is_id t.class ≡ true → r.last_part (t ∷ rest) ≡ done (last.Ident (ident_of t)) rest
 unfolding r.last_part
 id_done t rest e = ap (λ b. if b then made last.Ident (token_by (if b then Some (ident_of t) else None) t rest) else (last.Operator <$> (is k.Operator ⊳ r.op)) (t ∷ rest)) e
 
 -- what is made of the last name
-abbrev no_scope : {B : Type 0} → B → List Ident × B
+abbrev pub no_scope : {B : Type 0} → B → List Ident × B
 no_scope b = ([], b)
 
-end_by : (goes : Class → Bool) (t : Lexeme) (rest : List Lexeme) (b c : Bool) → is_type t.class ≡ b → is_name t.class ≡ c → (is_name t.class ≡ true → sees (is k.ColonColon) rest ≡ false)
+pub end_by : (goes : Class → Bool) (t : Lexeme) (rest : List Lexeme) (b c : Bool) → is_type t.class ≡ b → is_name t.class ≡ c → (is_name t.class ≡ true → sees (is k.ColonColon) rest ≡ false)
     → Faulted goes (t ∷ rest) (bare_end (is_type t.class) rest) (made no_scope (type_end (is_type t.class) (is_name t.class) t rest)) (made no_scope (name_end (starts_last t.class) (is_name t.class) t rest)) (fault false goes (t ∷ rest))
 end_by goes t rest true c p q colons =
     let named = sub is_type is_name refl t p in
@@ -114,25 +114,25 @@ end_by goes t rest false false p q colons =
 
 -- ---- names with `::` before it
 
-abbrev FaultedAt : (Class → Bool) → ℕ → List Lexeme → Type 0
+abbrev pub FaultedAt : (Class → Bool) → ℕ → List Lexeme → Type 0
 FaultedAt goes n ts = Faulted goes ts (names_end ts) (scopes_then type_behind n ts) (scopes_then name_behind n ts) (fault false goes ts)
 
-faulted_same : {goes : Class → Bool} {ts : List Lexeme} {e e' : Option (List Lexeme)} {a a' : Outcome Lexeme (List Ident × Ident)} {b b' : Outcome Lexeme (List Ident × Last)} {o o' : Outcome Lexeme Operand}
+pub faulted_same : {goes : Class → Bool} {ts : List Lexeme} {e e' : Option (List Lexeme)} {a a' : Outcome Lexeme (List Ident × Ident)} {b b' : Outcome Lexeme (List Ident × Last)} {o o' : Outcome Lexeme Operand}
     → e ≡ e' → a ≡ a' → b ≡ b' → o ≡ o' → Faulted goes ts e' a' b' o' → Faulted goes ts e a b o
 faulted_same p q s z (at_type rest v x y w) = at_type rest v (p ∙ x) (q ∙ y) (z ∙ w)
 faulted_same p q s z (at_id rest w y x v) = at_id rest w (q ∙ y) (s ∙ x) (z ∙ v)
 faulted_same p q s z (at_scope front rest c n y w x v) = at_scope front rest c n (q ∙ y) (z ∙ w) (λ i. s ∙ x i) (λ f after i j. let m = v f after i j in let l = ap reach s in omega arith)
 faulted_same p q s z (at_start n y w x v) = at_start n (q ∙ y) (z ∙ w) (λ i. s ∙ x i) (λ f after i j. let m = v f after i j in let l = ap reach s in omega arith)
 
-no_colons : (c : Lexeme → Bool) (t : Lexeme) (rest : List Lexeme) → two (t ∷ rest) ≡ false → is_name t.class ≡ true → sees (is k.ColonColon) rest ≡ false
+pub no_colons : (c : Lexeme → Bool) (t : Lexeme) (rest : List Lexeme) → two (t ∷ rest) ≡ false → is_name t.class ≡ true → sees (is k.ColonColon) rest ≡ false
 no_colons c t rest e n = false_of (sees (is k.ColonColon) rest) (λ i. let both : true ≡ false = sym (both_true (is_name t.class) (sees (is k.ColonColon) rest) n i) ∙ e in cc)
 
-faulted_end : (goes : Class → Bool) (n : ℕ) (t : Lexeme) (rest : List Lexeme) → two (t ∷ rest) ≡ false → names_end (t ∷ rest) ≡ bare_end (is_type t.class) rest → FaultedAt goes n (t ∷ rest)
+pub faulted_end : (goes : Class → Bool) (n : ℕ) (t : Lexeme) (rest : List Lexeme) → two (t ∷ rest) ≡ false → names_end (t ∷ rest) ≡ bare_end (is_type t.class) rest → FaultedAt goes n (t ∷ rest)
 faulted_end goes n t rest e names = faulted_same names (scopes_end type_behind n (t ∷ rest) e) (scopes_end name_behind n (t ∷ rest) e) refl
     (end_by goes t rest (is_type t.class) (is_name t.class) refl refl (no_colons (at is_name) t rest e))
 
 -- one name and `::` more
-faulted_more : (goes : Class → Bool) (m : ℕ) (t u : Lexeme) (rest : List Lexeme) → is_name t.class ≡ true → FaultedAt is_operator_word m rest
+pub faulted_more : (goes : Class → Bool) (m : ℕ) (t u : Lexeme) (rest : List Lexeme) → is_name t.class ≡ true → FaultedAt is_operator_word m rest
     → Faulted goes (t ∷ u ∷ rest) (names_end rest) (made (on_name (ident_of t)) (scopes_then type_behind m rest)) (made (on_name (ident_of t)) (scopes_then name_behind m rest)) (fault false is_operator_word rest)
 faulted_more goes m t u rest name (at_type more v x y w) = at_type more (on_name (ident_of t) v) x (ap (made (on_name (ident_of t))) y) w
 faulted_more goes m t u rest name (at_id more w y x v) = at_id more (on_name (ident_of t) w) (ap (made (on_name (ident_of t))) y) (ap (made (on_name (ident_of t))) x) v
@@ -141,7 +141,7 @@ faulted_more goes m t u rest name (at_scope front more c n y w x v) = at_scope (
 faulted_more goes m t u rest name (at_start n y w x v) = at_scope (t ∷ u ∷ []) rest refl name (ap (made (on_name (ident_of t))) y) w
     (λ i. ap (made (on_name (ident_of t))) (x i)) (λ f after i j. let z = v f after i j in let l = reach_made (on_name (ident_of t)) (scopes_then name_behind m rest) in omega arith)
 
-faulted_by : (goes : Class → Bool) (n : ℕ) (t u : Lexeme) (rest : List Lexeme) → ((m : ℕ) → n ≡ suc m → FaultedAt is_operator_word m rest) → (b : Bool) → two (t ∷ u ∷ rest) ≡ b → length (t ∷ u ∷ rest) ≤ n → FaultedAt goes n (t ∷ u ∷ rest)
+pub faulted_by : (goes : Class → Bool) (n : ℕ) (t u : Lexeme) (rest : List Lexeme) → ((m : ℕ) → n ≡ suc m → FaultedAt is_operator_word m rest) → (b : Bool) → two (t ∷ u ∷ rest) ≡ b → length (t ∷ u ∷ rest) ≤ n → FaultedAt goes n (t ∷ u ∷ rest)
 faulted_by goes n t u rest again false e fits = faulted_end goes n t (u ∷ rest) e (ap (λ b. if b then names_end rest else bare_end (is_type t.class) (u ∷ rest)) e)
 faulted_by goes zero t u rest again true e fits = let l = length-append (t ∷ []) (u ∷ rest) in absurd (omega arith)
 faulted_by goes (suc m) t u rest again true e fits = let p = and_first (is_name t.class) (is k.ColonColon u) e in let q = and_second (is_name t.class) (is k.ColonColon u) e in
@@ -150,27 +150,27 @@ faulted_by goes (suc m) t u rest again true e fits = let p = and_first (is_name 
     ∙ ap (λ b. if b then fault false is_operator_word rest else fault_at (goes_behind (is_type t.class)) (u ∷ rest)) q)
     (faulted_more goes m t u rest p (again m refl))
 
-no_last : r.last_part [] ≡ stop Syntax 0
+pub no_last : r.last_part [] ≡ stop Syntax 0
 unfolding r.last_part
 no_last = refl
 
-nothing_next : (f : Lexeme) (after : List Lexeme) → [] ≡ f ∷ after → ⊥
+pub nothing_next : (f : Lexeme) (after : List Lexeme) → [] ≡ f ∷ after → ⊥
 nothing_next f after e = cc
 
-faulted_names : (goes : Class → Bool) (n : ℕ) (ts : List Lexeme) → length ts ≤ n → FaultedAt goes n ts
+pub faulted_names : (goes : Class → Bool) (n : ℕ) (ts : List Lexeme) → length ts ≤ n → FaultedAt goes n ts
 faulted_names goes n [] fits = at_start refl (scopes_end type_behind n [] refl) refl (λ e. scopes_end name_behind n [] refl ∙ ap (made no_scope) no_last) (λ f after c e. absurd (nothing_next f after c))
 faulted_names goes n (t ∷ []) fits = faulted_end goes n t [] (no_second (is_name t.class)) refl
 faulted_names goes n (t ∷ u ∷ rest) fits = faulted_by goes n t u rest (λ m e. faulted_names is_operator_word m rest (let l = length-append (t ∷ u ∷ []) rest in omega arith)) (two (t ∷ u ∷ rest)) refl fits
 
-faulted : (goes : Class → Bool) (ts : List Lexeme) → Faulted goes ts (names_end ts) (r.type_names ts) (r.fname_parts ts) (fault false goes ts)
+pub faulted : (goes : Class → Bool) (ts : List Lexeme) → Faulted goes ts (names_end ts) (r.type_names ts) (r.fname_parts ts) (fault false goes ts)
 unfolding many_when
 faulted goes ts = faulted_names goes (length ts) ts (omega arith)
 
-seen_sub : {p q : Lexeme → Bool} → Sub p q → (ts : List Lexeme) → sees p ts ≡ true → sees q ts ≡ true
+pub seen_sub : {p q : Lexeme → Bool} → Sub p q → (ts : List Lexeme) → sees p ts ≡ true → sees q ts ≡ true
 seen_sub k [] e = e
 seen_sub k (t ∷ ts) e = k t e
 
-colon_first : (t : Lexeme) → is k.ColonColon t ≡ true → at starts_name t ≡ true
+pub colon_first : (t : Lexeme) → is k.ColonColon t ≡ true → at starts_name t ≡ true
 unfolding same_class
 colon_first t e = sub (λ c. r.just k.ColonColon c) starts_name refl t e
 
@@ -188,20 +188,20 @@ pub data NameFault (u : List Lexeme) : Type 0 where
 abbrev pub word_fault : Bool → Bool → List Lexeme → Outcome Lexeme Operand
 word_fault b c u = if b then fault_at starts_given (tail_of u) else (if c then fault false is_operator_word (tail_of u) else fault false starts_assign u)
 
-plain_fault : (u : List Lexeme) → sees (at is_word) u ≡ false → sees (is k.ColonColon) u ≡ false → type_fault {A = Operand} u ≡ fault false starts_assign u
+pub plain_fault : (u : List Lexeme) → sees (at is_word) u ≡ false → sees (is k.ColonColon) u ≡ false → type_fault {A = Operand} u ≡ fault false starts_assign u
 plain_fault u e f = ap (λ b. word_fault b (sees (is k.ColonColon) u) u) e ∙ ap (λ c. word_fault false c u) f
 
-plain_name : (u : List Lexeme) → sees (at is_word) u ≡ false → sees (is k.ColonColon) u ≡ false → Faulted starts_assign u (names_end u) (r.type_names u) (r.fname_parts u) (fault false starts_assign u) → NameFault u
+pub plain_name : (u : List Lexeme) → sees (at is_word) u ≡ false → sees (is k.ColonColon) u ≡ false → Faulted starts_assign u (names_end u) (r.type_names u) (r.fname_parts u) (fault false starts_assign u) → NameFault u
 plain_name u e f (at_type rest v n a o) = behind_type rest _ (ap (λ b. if b then names_end (tail_of u) else names_end u) f ∙ n) (qtype_plain u f ∙ ap (qtype_made u None) a) (plain_fault u e f ∙ o)
 plain_name u e f (at_id rest w a b o) = behind_id rest _ (qtype_plain u f ∙ ap (qtype_made u None) a) (name_plain (r.deeper 0) u f ∙ ap (name_made u None) b) (plain_fault u e f ∙ o)
 plain_name u e f (at_scope front rest c n a o s g) = behind_scope front rest c (seen_sub (sub is_name starts_name refl) u n) (qtype_plain u f ∙ ap (qtype_made u None) a) (plain_fault u e f ∙ o)
     (λ i. name_plain (r.deeper 0) u f ∙ ap (name_made u None) (s i)) (λ z after i j. let m = g z after i j in let l = ap reach (name_plain (r.deeper 0) u f) ∙ reach_name u None (r.fname_parts u) in omega arith)
 plain_name u e f (at_start n a o s g) = at_first (qtype_plain u f ∙ ap (qtype_made u None) a) (plain_fault u e f ∙ o)
 
-global_fault : (t : Lexeme) (rest : List Lexeme) → at is_word t ≡ false → is k.ColonColon t ≡ true → type_fault {A = Operand} (t ∷ rest) ≡ fault false is_operator_word rest
+pub global_fault : (t : Lexeme) (rest : List Lexeme) → at is_word t ≡ false → is k.ColonColon t ≡ true → type_fault {A = Operand} (t ∷ rest) ≡ fault false is_operator_word rest
 global_fault t rest e f = ap (λ b. word_fault b (is k.ColonColon t) (t ∷ rest)) e ∙ ap (λ c. word_fault false c (t ∷ rest)) f
 
-global_name : (t : Lexeme) (ts : List Lexeme) → at is_word t ≡ false → is k.ColonColon t ≡ true → Faulted is_operator_word ts (names_end ts) (r.type_names ts) (r.fname_parts ts) (fault false is_operator_word ts) → NameFault (t ∷ ts)
+pub global_name : (t : Lexeme) (ts : List Lexeme) → at is_word t ≡ false → is k.ColonColon t ≡ true → Faulted is_operator_word ts (names_end ts) (r.type_names ts) (r.fname_parts ts) (fault false is_operator_word ts) → NameFault (t ∷ ts)
 global_name t ts e f (at_type rest v n a o) = behind_type rest _ (ap (λ b. if b then names_end ts else names_end (t ∷ ts)) f ∙ n) (qtype_global t ts f ∙ ap (qtype_made (t ∷ ts) (Some tt)) a) (global_fault t ts e f ∙ o)
 global_name t ts e f (at_id rest w a b o) = behind_id rest _ (qtype_global t ts f ∙ ap (qtype_made (t ∷ ts) (Some tt)) a) (name_global (r.deeper 0) t ts f ∙ ap (name_made ts (Some tt)) b) (global_fault t ts e f ∙ o)
 global_name t ts e f (at_scope front rest c n a o s g) = behind_scope (t ∷ front) rest (ap (λ l. t ∷ l) c) (colon_first t f) (qtype_global t ts f ∙ ap (qtype_made (t ∷ ts) (Some tt)) a) (global_fault t ts e f ∙ o)
@@ -209,7 +209,7 @@ global_name t ts e f (at_scope front rest c n a o s g) = behind_scope (t ∷ fro
 global_name t ts e f (at_start n a o s g) = behind_scope (t ∷ []) ts refl (colon_first t f) (qtype_global t ts f ∙ ap (qtype_made (t ∷ ts) (Some tt)) a) (global_fault t ts e f ∙ o)
     (λ i. name_global (r.deeper 0) t ts f ∙ ap (name_made ts (Some tt)) (s i)) (λ z after i j. let m = g z after i j in let l = ap reach (name_global (r.deeper 0) t ts f) ∙ reach_name ts (Some tt) (r.fname_parts ts) in omega arith)
 
-name_fault_at : (u : List Lexeme) → sees (at is_word) u ≡ false → (b : Bool) → sees (is k.ColonColon) u ≡ b → NameFault u
+pub name_fault_at : (u : List Lexeme) → sees (at is_word) u ≡ false → (b : Bool) → sees (is k.ColonColon) u ≡ b → NameFault u
 name_fault_at u e false f = plain_name u e f (faulted starts_assign u)
 name_fault_at [] e true f = absurd (let c : false ≡ true = f in cc)
 name_fault_at (t ∷ ts) e true f = global_name t ts e f (faulted is_operator_word ts)

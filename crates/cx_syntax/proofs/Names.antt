@@ -30,19 +30,19 @@ use Rattle.cx_syntax.proofs.Basics.{at, apart, sub, pick_fits, pick_named, heads
 abbrev pub starts_op : Class → Bool
 starts_op c = just k.OpenParen c || (just k.OpenBracket c || is_single_operator c)
 
-abbrev call : Family Lexeme Overloaded
+abbrev pub call : Family Lexeme Overloaded
 call n = (λ _. v.Call) <$> (is k.OpenParen ⊳ the (is k.CloseParen))
 
-abbrev brackets : Family Lexeme Overloaded
+abbrev pub brackets : Family Lexeme Overloaded
 brackets n = (λ _. v.Subscript) <$> (is k.OpenBracket ⊳ the (is k.CloseBracket))
 
-heads_call : Heads call (at (just k.OpenParen))
+pub heads_call : Heads call (at (just k.OpenParen))
 heads_call = heads_as (λ _. v.Call) (heads_before {G = λ n. the (is k.CloseParen)} (is k.OpenParen))
 
-heads_brackets : Heads brackets (at (just k.OpenBracket))
+pub heads_brackets : Heads brackets (at (just k.OpenBracket))
 heads_brackets = heads_as (λ _. v.Subscript) (heads_before {G = λ n. the (is k.CloseBracket)} (is k.OpenBracket))
 
-heads_single : Heads (λ n. one (pick is_single_operator overloaded_of)) (at is_single_operator)
+pub heads_single : Heads (λ n. one (pick is_single_operator overloaded_of)) (at is_single_operator)
 heads_single = heads_pick is_single_operator overloaded_of
 
 pub exactly_op : (left : ℕ) → Exactly (λ n. g.op) (by never) left r.op
@@ -55,16 +55,16 @@ exactly_op left = exactly_choice (just k.OpenParen) (λ c. just k.OpenBracket c 
 
 -- ---- the end of an fname, and fname
 
-abbrev operator_part : Family Lexeme Last
+abbrev pub operator_part : Family Lexeme Last
 operator_part n = last.Operator <$> (is k.Operator ⊳ g.op)
 
-abbrev id_part : Family Lexeme Last
+abbrev pub id_part : Family Lexeme Last
 id_part n = last.Ident <$> g.id
 
-heads_operator_part : Heads operator_part (at (just k.Operator))
+pub heads_operator_part : Heads operator_part (at (just k.Operator))
 heads_operator_part = heads_as last.Operator (heads_before {G = λ n. g.op} (is k.Operator))
 
-heads_id_part : Heads id_part (at is_id)
+pub heads_id_part : Heads id_part (at is_id)
 heads_id_part = heads_as last.Ident (heads_pick is_id ident_of)
 
 pub heads_last_part : Heads (λ n. g.last_part) (at starts_last)
@@ -78,12 +78,12 @@ exactly_last_part left = exactly_choice is_id (just k.Operator) refl heads_id_pa
     (exactly_stays refl (λ n. refl) (exactly_as last.Operator (exactly_before (is k.Operator) (exactly_op left))))
 
 -- a name that ends an fname is all of the end
-lone_spelled : (t : Lexeme) (x : List Lexeme) (w : Last) → at is_name t ≡ true → g.last_part.spells (t ∷ x) w → x ≡ []
+pub lone_spelled : (t : Lexeme) (x : List Lexeme) (w : Last) → at is_name t ≡ true → g.last_part.spells (t ∷ x) w → x ≡ []
 unfolding same_class
 lone_spelled t x w is (inl s) = let alone = s.part.alone in cc
 lone_spelled t x w is (inr s) = absurd (apart is_name (just k.Operator) refl t is (heads_operator_part.spells 0 t x w s))
 
-lone_begun : (t : Lexeme) (x : List Lexeme) → at is_name t ≡ true → g.last_part.begins (t ∷ x) → x ≡ []
+pub lone_begun : (t : Lexeme) (x : List Lexeme) → at is_name t ≡ true → g.last_part.begins (t ∷ x) → x ≡ []
 unfolding same_class
 lone_begun t x is (inl (none_yet e)) = cc
 lone_begun t x is (inr (none_yet e)) = cc
@@ -91,16 +91,16 @@ lone_begun t x is (inl (some st (nothing e))) = cc
 lone_begun t x is (inl (some st (whole v s))) = let alone = s.alone in cc
 lone_begun t x is (inr (some st b)) = absurd (apart is_name (just k.Operator) refl t is (heads_operator_part.begins 0 t x b))
 
-name_ends : (t : Lexeme) → at is_name t ≡ true → at starts_last t ≡ true → at is_id t ≡ true
+pub name_ends : (t : Lexeme) → at is_name t ≡ true → at starts_last t ≡ true → at is_id t ≡ true
 name_ends t e f = sub (λ c. is_name c && starts_last c) is_id refl t (both_true (is_name t.class) (starts_last t.class) e f)
 
-last_begins : (t : Lexeme) → at is_name t ≡ true → at starts_last t ≡ true → g.last_part.begins (t ∷ [])
+pub last_begins : (t : Lexeme) → at is_name t ≡ true → at starts_last t ≡ true → g.last_part.begins (t ∷ [])
 last_begins t is e = inl (some refl (begun_pick is_id ident_of t (name_ends t is e)))
 
-abbrev fname_parts : Family Lexeme (List Ident × Last)
+abbrev pub fname_parts : Family Lexeme (List Ident × Last)
 fname_parts n = names (pick is_name ident_of) (is k.ColonColon) g.last_part
 
-exactly_fname_parts : (left : ℕ) → Exactly fname_parts (by (at goes_name)) left r.fname_parts
+pub exactly_fname_parts : (left : ℕ) → Exactly fname_parts (by (at goes_name)) left r.fname_parts
 exactly_fname_parts left = exactly_names (at goes_name) heads_last_part (exactly_last_part left) (λ t w e. pick_fits is_name ident_of t w e) (λ t e. pick_named is_name ident_of t e)
     (λ n t x w is s. lone_spelled t x w is s) (λ n t x is b. lone_begun t x is b) last_begins (never_sub (at goes_name)) (same_sub (at goes_name))
 
@@ -108,7 +108,7 @@ pub exactly_fname : (left : ℕ) → Exactly (λ n. g.fname) (by (at goes_name))
 unfolding r.fname
 exactly_fname left = exactly_as function_name (exactly_measured span_of (exactly_fname_parts left))
 
-heads_scopes : Opens (λ n. many (one (pick is_name ident_of) ⊲ is k.ColonColon)) (at is_name)
+pub heads_scopes : Opens (λ n. many (one (pick is_name ident_of) ⊲ is k.ColonColon)) (at is_name)
 heads_scopes = opens_many (heads_behind {G = λ n. one (pick is_name ident_of)} (is k.ColonColon) (heads_pick is_name ident_of))
 
 pub heads_fname : Heads (λ n. g.fname) (at starts_fname)
@@ -117,24 +117,24 @@ heads_fname = heads_as function_name (heads_measured span_of (heads_after (opens
 
 -- ---- qtype
 
-abbrev type_names : Family Lexeme (List Ident × Ident)
+abbrev pub type_names : Family Lexeme (List Ident × Ident)
 type_names n = names (pick is_name ident_of) (is k.ColonColon) g.type_only
 
-heads_type_only : Heads (λ n. g.type_only) (at is_type)
+pub heads_type_only : Heads (λ n. g.type_only) (at is_type)
 heads_type_only = heads_pick is_type ident_of
 
-lone_type : (t : Lexeme) (x : List Lexeme) (w : Ident) → g.type_only.spells (t ∷ x) w → x ≡ []
+pub lone_type : (t : Lexeme) (x : List Lexeme) (w : Ident) → g.type_only.spells (t ∷ x) w → x ≡ []
 lone_type t x w s = let alone = s.alone in cc
 
-lone_type_begun : (t : Lexeme) (x : List Lexeme) → g.type_only.begins (t ∷ x) → x ≡ []
+pub lone_type_begun : (t : Lexeme) (x : List Lexeme) → g.type_only.begins (t ∷ x) → x ≡ []
 lone_type_begun t x (nothing e) = cc
 lone_type_begun t x (whole v s) = let alone = s.alone in cc
 
-exactly_type_names : (left : ℕ) → Exactly type_names (by (at goes_name)) left (r.type_names)
+pub exactly_type_names : (left : ℕ) → Exactly type_names (by (at goes_name)) left (r.type_names)
 exactly_type_names left = exactly_names (at goes_name) heads_type_only (exactly_token {f = pick is_type ident_of}) (λ t w e. pick_fits is_name ident_of t w e) (λ t e. pick_named is_name ident_of t e)
     (λ n t x w is s. lone_type t x w s) (λ n t x is b. lone_type_begun t x b) (λ t is e. begun_pick is_type ident_of t e) (never_sub (at goes_name)) (same_sub (at goes_name))
 
-heads_type_names : Heads type_names (at is_name)
+pub heads_type_names : Heads type_names (at is_name)
 heads_type_names = heads_after heads_scopes (λ n. record { front = []; back = []; cut = refl; turns = []; whole = refl; next = none_yet refl }) (heads_sub (sub is_type is_name refl) heads_type_only)
 
 abbrev pub colons : Family Lexeme (Option (Unit {0}))

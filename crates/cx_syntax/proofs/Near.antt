@@ -34,19 +34,19 @@ use Rattle.cx_syntax.proofs.NameFaults.{NameFault, behind_type, behind_id, behin
 use Rattle.cx_syntax.proofs.Following.{given_begun, name_goes_on}
 use Rattle.cx_syntax.proofs.Sizeof.{Near, syntax, nesting}
 
-abbrev NearFront : List Lexeme → Type 0
+abbrev pub NearFront : List Lexeme → Type 0
 NearFront u = (f : ExprFront u) × Near u f.run f.rest
 
-fault_is : (goes : Class → Bool) (rest : List Lexeme) (b : Bool) → sees (at goes) rest ≡ b → fault_at {A = Operand} goes rest ≡ stop (if b then Nesting else Syntax) (length rest)
+pub fault_is : (goes : Class → Bool) (rest : List Lexeme) (b : Bool) → sees (at goes) rest ≡ b → fault_at {A = Operand} goes rest ≡ stop (if b then Nesting else Syntax) (length rest)
 fault_is goes rest b e = ap (λ c. stop (if c then Nesting else Syntax) (length rest)) e
 
 -- ---- a word or a type's name with what an object is made from behind it
 
-nothing_more : (d y b : List Lexeme) → b ≡ d ++ y → length y ≡ length b → d ≡ []
+pub nothing_more : (d y b : List Lexeme) → b ≡ d ++ y → length y ≡ length b → d ≡ []
 nothing_more [] y b e l = refl
 nothing_more (t ∷ d) y b e l = let m = ap length e in let n = length-append (t ∷ d) y in absurd (omega arith)
 
-near_word : (t : Lexeme) (rest : List Lexeme) (is_it : is_word t.class ≡ true) → sees (at starts_given) rest ≡ true → NearFront (t ∷ rest)
+pub near_word : (t : Lexeme) (rest : List Lexeme) (is_it : is_word t.class ≡ true) → sees (at starts_given) rest ≡ true → NearFront (t ∷ rest)
 near_word t [] is_it e = absurd (let c : false ≡ true = e in cc)
 near_word t (c ∷ after) is_it e = let rest = c ∷ after in let f = front_at (expr_at_word t rest is_it e) in let w = word_read t rest is_it in (
   f,
@@ -54,7 +54,7 @@ near_word t (c ∷ after) is_it e = let rest = c ∷ after in let f = front_at (
       (λ n. in_first (head_expr (suc n) (w.used ++ c ∷ []) (made_head (suc n) (w.used ++ c ∷ []) (in_second w.used (c ∷ []) (word_of t) refl (w.spells 0 (omega arith)) (given_begun c (suc n) e))))),
 )
 
-near_type : (u rest : List Lexeme) (v : TypeName) (a : r.qtype u ≡ done v rest) → sees (at begins_type) u ≡ false → sees (at starts_given) rest ≡ true → type_fault {A = Operand} u ≡ fault_at starts_given rest → NearFront u
+pub near_type : (u rest : List Lexeme) (v : TypeName) (a : r.qtype u ≡ done v rest) → sees (at begins_type) u ≡ false → sees (at starts_given) rest ≡ true → type_fault {A = Operand} u ≡ fault_at starts_given rest → NearFront u
 near_type u [] v a none e o = absurd (let c : false ≡ true = e in cc)
 near_type u (c ∷ after) v a none e o = let rest = c ∷ after in let f = front_at (expr_at_type u rest v a none e) in let w = qtype_read u rest v a in (
   f,
@@ -65,7 +65,7 @@ near_type u (c ∷ after) v a none e o = let rest = c ∷ after in let f = front
 -- ---- other names
 
 -- two cuts of one list behind which as many tokens are left
-same_used : (x y a b : List Lexeme) → x ++ y ≡ a ++ b → length y ≡ length b → (x ≡ a) × (y ≡ b)
+pub same_used : (x y a b : List Lexeme) → x ++ y ≡ a ++ b → length y ≡ length b → (x ≡ a) × (y ≡ b)
 same_used x y a b e l = elim (splits x y a b e) [
   | inl (d, p, q) ↦ let n = nothing_more d y b q l in (p ∙ (ap (λ z. a ++ z) n ∙ append-nil a), sym (q ∙ ap (λ z. z ++ y) n))
   | inr (d, p, q) ↦ let n = nothing_more d b y q (sym l) in (sym (p ∙ (ap (λ z. x ++ z) n ∙ append-nil x)), q ∙ ap (λ z. z ++ b) n)
@@ -73,12 +73,12 @@ same_used x y a b e l = elim (splits x y a b e) [
 
 module _ (u : List Lexeme) (none : sees (at begins_type) u ≡ false) (no_word : sees (at is_word) u ≡ false) where
   module _ (left : ℕ) (a : r.qtype u ≡ stop Syntax left) where
-    never_made : Never (λ n. g.type_made (g.deeper n)) u (qtype_stop u left a).used
+    pub never_made : Never (λ n. g.type_made (g.deeper n)) u (qtype_stop u left a).used
     unfolding same_class
     never_made = never_as _ (never_ended (short_stop (λ n. g.qtype) (at goes_name) (at goes_name) 0 u (same_sub (at goes_name)) left (qtype_stop u left a)) h.heads_given (apart goes_name starts_given refl))
 
     -- an expr that ends as the name does goes no further
-    never_named : (q : Class → Bool) → Apart (at q) (at goes_past) → Apart (at q) (at (just k.CloseParen)) → sees (at starts_id_expression) u ≡ true → Short (λ n. g.id_expression (g.deeper n)) (at q) u (qtype_stop u left a).used
+    pub never_named : (q : Class → Bool) → Apart (at q) (at goes_past) → Apart (at q) (at (just k.CloseParen)) → sees (at starts_id_expression) u ≡ true → Short (λ n. g.id_expression (g.deeper n)) (at q) u (qtype_stop u left a).used
         → Never (λ n. (g.deeper n).expr ⊲ is k.CloseParen) u (qtype_stop u left a).used
     unfolding same_class
     never_named q past close first s = never_as _ (never_ended (short_below h.below_expr (short_expr q past u (qtype_stop u left a).used (unseen_by (apart starts_id_expression starts_other refl) u first)
@@ -89,39 +89,39 @@ module _ (u : List Lexeme) (none : sees (at begins_type) u ≡ false) (no_word :
   abbrev not_following : Class → Bool
   not_following c = not (follows_name c)
 
-  blocked_at : (y : List Lexeme) → sees (at follows_name) y ≡ false → Blocked (at not_following) y
+  pub blocked_at : (y : List Lexeme) → sees (at follows_name) y ≡ false → Blocked (at not_following) y
   blocked_at [] e = λ t r c. cc
   blocked_at (v ∷ y) e = λ t r c. let same_token : v ≡ t = cc in subst (λ z. at not_following z ≡ true) same_token (ap not e)
 
   module _ (rest : List Lexeme) (w : ExprKind) (a : r.qtype u ≡ stop Syntax (length rest)) (b : r.id_expression (r.deeper 0) u ≡ done w rest) (o : type_fault {A = Operand} u ≡ fault_at follows_name rest) where
-    id_read : Exact (λ n. g.id_expression (g.deeper n)) (by (at goes_name)) 0 u (done w rest)
+    pub id_read : Exact (λ n. g.id_expression (g.deeper n)) (by (at goes_name)) 0 u (done w rest)
     id_read = let P : Outcome Lexeme ExprKind → Type 0 = λ z. Exact (λ n. g.id_expression (g.deeper n)) (by (at goes_name)) 0 u z in subst P b ((exactly_id 0 (r.deeper 0)).at u)
 
-    id_cut : ((qtype_stop u (length rest) a).used ≡ id_read.used) × ((qtype_stop u (length rest) a).rest ≡ rest)
+    pub id_cut : ((qtype_stop u (length rest) a).used ≡ id_read.used) × ((qtype_stop u (length rest) a).rest ≡ rest)
     id_cut = let s = qtype_stop u (length rest) a in same_used s.used s.rest id_read.used rest (sym s.core.cut ∙ id_read.core.cut) s.size
 
-    id_reach : reach (r.id_expression (r.deeper 0) u) ≤ length rest
+    pub id_reach : reach (r.id_expression (r.deeper 0) u) ≤ length rest
     id_reach = let l = ap reach b in omega arith
 
-    id_first : sees (at starts_id_expression) u ≡ true
+    pub id_first : sees (at starts_id_expression) u ≡ true
     id_first = seen_head h.heads_id_expression 0 id_read.used rest u w id_read.core.cut (id_read.spells 0 (omega arith))
 
     abbrev id_front : ExprFront u
     id_front = front_at (expr_at_other u (length rest) a id_reach none no_word)
 
-    id_syntax : sees (at follows_name) rest ≡ false → Near u (qtype_stop u (length rest) a).used (qtype_stop u (length rest) a).rest
+    pub id_syntax : sees (at follows_name) rest ≡ false → Near u (qtype_stop u (length rest) a).used (qtype_stop u (length rest) a).rest
     unfolding same_class
     id_syntax e = let s = qtype_stop u (length rest) a in syntax (o ∙ (fault_is follows_name rest false e ∙ ap (stop Syntax) (sym s.size)))
         (never_named (length rest) a not_following (apart not_following goes_past refl) (apart not_following (just k.CloseParen) refl) id_first
         (short_more (let P : List Lexeme → Type 0 = λ x. Within s.used x in subst P id_cut.0 ([], sym (append-nil s.used)))
         (short_done (λ n. g.id_expression (g.deeper n)) (at goes_name) (at not_following) 0 u (sub goes_name not_following refl) w rest id_read (blocked_at rest e))))
 
-    id_nesting : (f : Lexeme) (after : List Lexeme) → rest ≡ f ∷ after → at follows_name f ≡ true → Near u (qtype_stop u (length rest) a).used (qtype_stop u (length rest) a).rest
+    pub id_nesting : (f : Lexeme) (after : List Lexeme) → rest ≡ f ∷ after → at follows_name f ≡ true → Near u (qtype_stop u (length rest) a).used (qtype_stop u (length rest) a).rest
     id_nesting f after c e = let s = qtype_stop u (length rest) a in
         nesting f after (o ∙ (fault_is follows_name rest true (ap (sees (at follows_name)) c ∙ e) ∙ ap (stop Nesting) (sym s.size))) (id_cut.1 ∙ c)
         (λ n. let P : List Lexeme → Type 0 = λ x. ((g.deeper (suc (suc n))).expr ⊲ is k.CloseParen).begins (x ++ f ∷ []) in subst P (sym id_cut.0) (name_goes_on n id_read.used w (id_read.spells (suc n) (omega arith)) f e))
 
-    id_near : (y : List Lexeme) → rest ≡ y → (c : Bool) → sees (at follows_name) y ≡ c → Near u (qtype_stop u (length rest) a).used (qtype_stop u (length rest) a).rest
+    pub id_near : (y : List Lexeme) → rest ≡ y → (c : Bool) → sees (at follows_name) y ≡ c → Near u (qtype_stop u (length rest) a).used (qtype_stop u (length rest) a).rest
     id_near y e false c = id_syntax (ap (sees (at follows_name)) e ∙ c)
     id_near [] e true c = absurd (let z : false ≡ true = c in cc)
     id_near (f ∷ after) e true c = id_nesting f after e c
@@ -166,22 +166,22 @@ module _ (u : List Lexeme) (none : sees (at begins_type) u ≡ false) (no_word :
   -- ---- no name
 
   module _ (a : r.qtype u ≡ stop Syntax (length u)) (o : type_fault {A = Operand} u ≡ fault_at starts_assign u) where
-    first_cut : ((qtype_stop u (length u) a).used ≡ []) × ((qtype_stop u (length u) a).rest ≡ u)
+    pub first_cut : ((qtype_stop u (length u) a).used ≡ []) × ((qtype_stop u (length u) a).rest ≡ u)
     first_cut = let s = qtype_stop u (length u) a in same_used s.used s.rest [] u (sym s.core.cut) s.size
 
-    first_near : (y : List Lexeme) → u ≡ y → (c : Bool) → sees (at starts_assign) y ≡ c → Near u (qtype_stop u (length u) a).used (qtype_stop u (length u) a).rest
+    pub first_near : (y : List Lexeme) → u ≡ y → (c : Bool) → sees (at starts_assign) y ≡ c → Near u (qtype_stop u (length u) a).used (qtype_stop u (length u) a).rest
     first_near y e false c = let s = qtype_stop u (length u) a in let unseen = ap (sees (at starts_assign)) e ∙ c in
         syntax (o ∙ (fault_is starts_assign u false unseen ∙ ap (stop Syntax) (sym s.size))) (never_as _ (never_both _ (never_elsewhere h.heads_deep_expr u unseen s.used)))
     first_near [] e true c = absurd (let z : false ≡ true = c in cc)
     first_near (f ∷ after) e true c = let s = qtype_stop u (length u) a in nesting f after (o ∙ (fault_is starts_assign u true (ap (sees (at starts_assign)) e ∙ c) ∙ ap (stop Nesting) (sym s.size))) (first_cut.1 ∙ e)
         (λ n. let P : List Lexeme → Type 0 = λ x. ((g.deeper (suc (suc n))).expr ⊲ is k.CloseParen).begins (x ++ f ∷ []) in subst P (sym first_cut.0) (in_first (b.begins_expr f n c)))
 
-    first_reach : reach (r.id_expression (r.deeper 0) u) ≤ length u
+    pub first_reach : reach (r.id_expression (r.deeper 0) u) ≤ length u
     first_reach = reach_within (λ n. g.id_expression (g.deeper n)) (by (at goes_name)) 0 u (r.id_expression (r.deeper 0) u) ((exactly_id 0 (r.deeper 0)).at u)
 
 -- ---- all
 
-near_name : (u : List Lexeme) → sees (at begins_type) u ≡ false → sees (at is_word) u ≡ false → ends_bare (qtype_end u) ≡ false → NameFault u → NearFront u
+pub near_name : (u : List Lexeme) → sees (at begins_type) u ≡ false → sees (at is_word) u ≡ false → ends_bare (qtype_end u) ≡ false → NameFault u → NearFront u
 near_name u none no_word h (behind_type rest v e a o) = near_type u rest v a none (not_false (sees (at starts_given) rest) (sym (ap ends_bare e) ∙ h)) o
 near_name u none no_word h (behind_id rest w a b o) = (id_front u none no_word rest w a b o, id_near u none no_word rest w a b o rest refl (sees (at follows_name) rest) refl)
 near_name u none no_word h (behind_scope front rest c first a o s goes) = (
@@ -190,10 +190,10 @@ near_name u none no_word h (behind_scope front rest c first a o s goes) = (
 )
 near_name u none no_word h (at_first a o) = (front_at (expr_at_other u (length u) a (first_reach u none no_word a o) none no_word), first_near u none no_word a o u refl (sees (at starts_assign) u) refl)
 
-abbrev by_word : Bool → List Lexeme → Bool
+abbrev pub by_word : Bool → List Lexeme → Bool
 by_word b u = if b then not (sees (at starts_given) (tail_of u)) else ends_bare (qtype_end u)
 
-near_by : (u : List Lexeme) (b c : Bool) → sees (at begins_type) u ≡ b → sees (at is_word) u ≡ c → (b || by_word c u) ≡ false → NearFront u
+pub near_by : (u : List Lexeme) (b c : Bool) → sees (at begins_type) u ≡ b → sees (at is_word) u ≡ c → (b || by_word c u) ≡ false → NearFront u
 near_by u true c p q h = absurd (let both : true ≡ false = h in cc)
 near_by [] false true p q h = absurd (let both : false ≡ true = q in cc)
 near_by (t ∷ rest) false true p q h = near_word t rest q (not_false (sees (at starts_given) rest) h)

@@ -33,22 +33,22 @@ use Rattle.cx_syntax.proofs.Primary.{exactly_postfix}
 
 -- ---- what an object is made from, at the end of a `new`: behind it nothing goes on, and without it what goes on with the type
 
-abbrev new_goes : (Class → Bool) → Option Given → Lexeme → Bool
+abbrev pub new_goes : (Class → Bool) → Option Given → Lexeme → Bool
 new_goes q None t = at q t
 new_goes q (Some given) t = false
 
-new_more : (q p : Class → Bool) → Sub (at q) (at p) → (w : Option Given) (t : Lexeme) → new_goes q w t ≡ true → new_goes p w t ≡ true
+pub new_more : (q p : Class → Bool) → Sub (at q) (at p) → (w : Option Given) (t : Lexeme) → new_goes q w t ≡ true → new_goes p w t ≡ true
 new_more q p k None t i = k t i
 new_more q p k (Some given) t i = i
 
-new_none : (q : Class → Bool) (w : Option Given) (t : Lexeme) → w ≡ None → at q t ≡ true → new_goes q w t ≡ true
+pub new_none : (q : Class → Bool) (w : Option Given) (t : Lexeme) → w ≡ None → at q t ≡ true → new_goes q w t ≡ true
 new_none q w t e i = let P : Option Given → Type 0 = λ z. new_goes q z t ≡ true in subst P (sym e) i
 
 -- a part before what ends so
 module _ {A B : Type 0} (G : Family Lexeme A) (H : Family Lexeme B) (last : B → Option Given) (qg qh q p : Class → Bool)
     (o : Opens H (at p)) (a : Apart (at qg) (at p)) (kg : Sub (at qg) (at q)) (kh : Sub (at qh) (at q)) (none : (n : ℕ) (u : B) → (H n).spells [] u → last u ≡ None)
   where
-    joins : Joins G H (by (at qg)) (λ u t. new_goes qh (last u) t) (λ v t. new_goes q (last v.1) t)
+    pub joins : Joins G H (by (at qg)) (λ u t. new_goes qh (last u) t) (λ v t. new_goes q (last v.1) t)
     joins = record {
       begins = λ n v t x b i. a t i (o.begins n t x b);
       spells = λ n v t x w b i. a t i (o.spells n t x w b);
@@ -56,36 +56,36 @@ module _ {A B : Type 0} (G : Family Lexeme A) (H : Family Lexeme B) (last : B �
       over = λ n v t b i. new_none q (last v.1) t (none n v.1 b) (kg t i);
     }
 
-exactly_ahead : {A B : Type 0} {G : Family Lexeme A} {H : Family Lexeme B} (last : B → Option Given) (qg qh q p : Class → Bool) {left : ℕ} {read : Reader Lexeme A} {s : Reader Lexeme B}
+pub exactly_ahead : {A B : Type 0} {G : Family Lexeme A} {H : Family Lexeme B} (last : B → Option Given) (qg qh q p : Class → Bool) {left : ℕ} {read : Reader Lexeme A} {s : Reader Lexeme B}
     → Opens H (at p) → Apart (at qg) (at p) → Sub (at qg) (at q) → Sub (at qh) (at q) → ((n : ℕ) (u : B) → (H n).spells [] u → last u ≡ None)
     → Exactly G (by (at qg)) left read → Exactly H (λ u t. new_goes qh (last u) t) left s → Exactly (λ n. G n >> H n) (λ v t. new_goes q (last v.1) t) left (read |> s)
 exactly_ahead {G = G} {H = H} last qg qh q p o a kg kh none g f = exactly_joined (by (at qg)) (λ u t. new_goes qh (last u) t) (λ v t. new_goes q (last v.1) t) (joins G H last qg qh q p o a kg kh none) g f
 
-no_given : (n : ℕ) (w : Option Given) → (maybe (g.given (g.deeper n))).spells [] w → w ≡ None
+pub no_given : (n : ℕ) (w : Option Given) → (maybe (g.given (g.deeper n))).spells [] w → w ≡ None
 no_given n None s = refl
 no_given n (Some v) (inl a) = let e = a.made in cc
 no_given n (Some v) (inr a) = absurd (h.heads_given.full n a.value a.part)
 
-back_blank : (x y : List Lexeme) → [] ≡ x ++ y → y ≡ []
+pub back_blank : (x y : List Lexeme) → [] ≡ x ++ y → y ≡ []
 back_blank [] y e = sym e
 back_blank (t ∷ x) y e = cc
 
-no_given_behind : {A B : Type 0} (G : Family Lexeme A) (H : Family Lexeme B) (last : B → Option Given) → ((n : ℕ) (u : B) → (H n).spells [] u → last u ≡ None) → (n : ℕ) (u : A × B) → (G n >> H n).spells [] u → last u.1 ≡ None
+pub no_given_behind : {A B : Type 0} (G : Family Lexeme A) (H : Family Lexeme B) (last : B → Option Given) → ((n : ℕ) (u : B) → (H n).spells [] u → last u ≡ None) → (n : ℕ) (u : A × B) → (G n >> H n).spells [] u → last u.1 ≡ None
 no_given_behind G H last none n u s = none n u.1 (let P : List Lexeme → Type 0 = λ l. (H n).spells l u.1 in subst P (back_blank s.front s.back s.cut) s.second)
 
-abbrev goes_bound : Class → Bool
+abbrev pub goes_bound : Class → Bool
 goes_bound c = just k.OpenBracket c || starts_given c
 
-abbrev goes_starred : Class → Bool
+abbrev pub goes_starred : Class → Bool
 goes_starred c = goes_stars c || goes_bound c
 
-abbrev starts_starred : Class → Bool
+abbrev pub starts_starred : Class → Bool
 starts_starred c = just k.Star c || goes_bound c
 
 module _ (left : ℕ) (d : Sound left) where
   -- ---- an operator before an operand
 
-  prefix_there : (r.deeper left).room ≡ true → Exactly (λ n. g.prefix (g.deeper n)) (goes_operand 0) left (prefixed <$$> measured_by span_of (r.prefix_parts (r.deeper left)))
+  pub prefix_there : (r.deeper left).room ≡ true → Exactly (λ n. g.prefix (g.deeper n)) (goes_operand 0) left (prefixed <$$> measured_by span_of (r.prefix_parts (r.deeper left)))
   prefix_there there = exactly_made (λ w t. goes_operand 0 w.0.1 t) (goes_operand 0) prefixed (λ v t i. i) (exactly_spanned span_of (λ w t. goes_operand 0 w.1 t) (exactly_next (goes_operand 0) exactly_token (d.cast there)))
 
   pub prefix_at : ExactlyAt (at is_prefix) (λ n. present (g.prefix (g.deeper n))) (goes_operand 0) left (r.prefix (r.deeper left))
@@ -94,11 +94,11 @@ module _ (left : ℕ) (d : Sound left) where
 
   -- ---- delete
 
-  exactly_brackets : Exactly (λ n. maybe (is k.OpenBracket ⊳ the (is k.CloseBracket))) (by (at (just k.OpenBracket))) left r.brackets
+  pub exactly_brackets : Exactly (λ n. maybe (is k.OpenBracket ⊳ the (is k.CloseBracket))) (by (at (just k.OpenBracket))) left r.brackets
   exactly_brackets = exactly_maybe (at (just k.OpenBracket)) (heads_before {G = λ n. the (is k.CloseBracket)} (is k.OpenBracket)) (present_at refl (λ n. refl) (exactly_before (is k.OpenBracket) exactly_token))
       (never_sub (is k.OpenBracket)) (same_sub (is k.OpenBracket))
 
-  delete_there : (r.deeper left).room ≡ true → Exactly (λ n. g.delete (g.deeper n)) (goes_operand 0) left (deleted <$$> measured_by span_of (r.delete_parts (r.deeper left)))
+  pub delete_there : (r.deeper left).room ≡ true → Exactly (λ n. g.delete (g.deeper n)) (goes_operand 0) left (deleted <$$> measured_by span_of (r.delete_parts (r.deeper left)))
   unfolding same_class
   delete_there there = exactly_made (λ w t. goes_operand 0 w.0.1 t) (goes_operand 0) deleted (λ v t i. i) (exactly_spanned span_of (λ w t. goes_operand 0 w.1 t)
       (exactly_then (goes_operand 0) (exactly_before (is k.Delete) exactly_brackets) (d.cast there) h.heads_deep_cast (apart (just k.OpenBracket) starts_unary refl)))
@@ -109,45 +109,45 @@ module _ (left : ℕ) (d : Sound left) where
 
   -- ---- new
 
-  new_bound_there : (r.deeper left).room ≡ true → Exactly (λ n. g.new_bound (g.deeper n)) (by never) left (r.new_bound_parts (r.deeper left))
+  pub new_bound_there : (r.deeper left).room ≡ true → Exactly (λ n. g.new_bound (g.deeper n)) (by never) left (r.new_bound_parts (r.deeper left))
   unfolding same_class
   new_bound_there there = exactly_before (is k.OpenBracket) (exactly_behind (is k.CloseBracket) (d.expr there) (apart goes_args (just k.CloseBracket) refl))
 
-  new_bound_at : ExactlyAt (at (just k.OpenBracket)) (λ n. present (g.new_bound (g.deeper n))) (by never) left (r.new_bound (r.deeper left))
+  pub new_bound_at : ExactlyAt (at (just k.OpenBracket)) (λ n. present (g.new_bound (g.deeper n))) (by never) left (r.new_bound (r.deeper left))
   unfolding r.new_bound
   new_bound_at = exactly_on (at (just k.OpenBracket)) (r.new_bound (r.deeper left)) (λ t ts s. marked (λ n. (r.deeper n).room) h.room left (b.new_bound_marked t s) new_bound_there)
 
-  heads_new_bound : Heads (λ n. g.new_bound (g.deeper n)) (at (just k.OpenBracket))
+  pub heads_new_bound : Heads (λ n. g.new_bound (g.deeper n)) (at (just k.OpenBracket))
   heads_new_bound = heads_before {G = λ n. (g.deeper n).expr ⊲ is k.CloseBracket} (is k.OpenBracket)
 
-  exactly_maybe_bound : Exactly (λ n. maybe (g.new_bound (g.deeper n))) (by (at (just k.OpenBracket))) left (r.maybe_new_bound (r.deeper left))
+  pub exactly_maybe_bound : Exactly (λ n. maybe (g.new_bound (g.deeper n))) (by (at (just k.OpenBracket))) left (r.maybe_new_bound (r.deeper left))
   exactly_maybe_bound = exactly_maybe (at (just k.OpenBracket)) heads_new_bound new_bound_at (never_sub (is k.OpenBracket)) (same_sub (is k.OpenBracket))
 
-  exactly_maybe_given : Exactly (λ n. maybe (g.given (g.deeper n))) (λ w t. new_goes starts_given w t) left (r.maybe_given (r.deeper left))
+  pub exactly_maybe_given : Exactly (λ n. maybe (g.given (g.deeper n))) (λ w t. new_goes starts_given w t) left (r.maybe_given (r.deeper left))
   exactly_maybe_given = exactly_perhaps (by never) (new_goes starts_given) h.heads_given (present_at refl (λ n. refl) (exactly_given left d)) (λ v t i. i) (λ t i. i)
 
-  exactly_new_end : Exactly (λ n. maybe (g.new_bound (g.deeper n)) >> maybe (g.given (g.deeper n))) (λ v t. new_goes goes_bound v.1 t) left (r.new_end (r.deeper left))
+  pub exactly_new_end : Exactly (λ n. maybe (g.new_bound (g.deeper n)) >> maybe (g.given (g.deeper n))) (λ v t. new_goes goes_bound v.1 t) left (r.new_end (r.deeper left))
   unfolding same_class
   exactly_new_end = exactly_ahead (λ w. w) (just k.OpenBracket) starts_given goes_bound starts_given (opens_maybe h.heads_given) (apart (just k.OpenBracket) starts_given refl)
       (sub (just k.OpenBracket) goes_bound refl) (sub starts_given goes_bound refl) no_given exactly_maybe_bound exactly_maybe_given
 
-  opens_new_end : Opens (λ n. maybe (g.new_bound (g.deeper n)) >> maybe (g.given (g.deeper n))) (at goes_bound)
+  pub opens_new_end : Opens (λ n. maybe (g.new_bound (g.deeper n)) >> maybe (g.given (g.deeper n))) (at goes_bound)
   unfolding same_class
   opens_new_end = opens_both (opens_sub (sub (just k.OpenBracket) goes_bound refl) (opens_maybe heads_new_bound)) (opens_sub (sub starts_given goes_bound refl) (opens_maybe h.heads_given))
 
-  none_end : (n : ℕ) (u : Option Expr × Option Given) → (maybe (g.new_bound (g.deeper n)) >> maybe (g.given (g.deeper n))).spells [] u → u.1 ≡ None
+  pub none_end : (n : ℕ) (u : Option Expr × Option Given) → (maybe (g.new_bound (g.deeper n)) >> maybe (g.given (g.deeper n))).spells [] u → u.1 ≡ None
   none_end n u s = no_given_behind (λ m. maybe (g.new_bound (g.deeper m))) (λ m. maybe (g.given (g.deeper m))) (λ w. w) no_given n u s
 
-  exactly_starred : Exactly (λ n. g.stars >> maybe (g.new_bound (g.deeper n)) >> maybe (g.given (g.deeper n))) (λ v t. new_goes goes_starred v.1.1 t) left (r.new_starred (r.deeper left))
+  pub exactly_starred : Exactly (λ n. g.stars >> maybe (g.new_bound (g.deeper n)) >> maybe (g.given (g.deeper n))) (λ v t. new_goes goes_starred v.1.1 t) left (r.new_starred (r.deeper left))
   unfolding same_class
   exactly_starred = exactly_ahead (λ u. u.1) goes_stars goes_bound goes_starred goes_bound opens_new_end (apart goes_stars goes_bound refl) (sub goes_stars goes_starred refl) (sub goes_bound goes_starred refl) none_end
       (exactly_stars left) exactly_new_end
 
-  opens_starred : Opens (λ n. g.stars >> maybe (g.new_bound (g.deeper n)) >> maybe (g.given (g.deeper n))) (at starts_starred)
+  pub opens_starred : Opens (λ n. g.stars >> maybe (g.new_bound (g.deeper n)) >> maybe (g.given (g.deeper n))) (at starts_starred)
   unfolding same_class
   opens_starred = opens_both (opens_sub (sub (just k.Star) starts_starred refl) (opens_upto heads_star 64)) (opens_sub (sub goes_bound starts_starred refl) opens_new_end)
 
-  flag_goes : (w : Option Given) (t : Lexeme) → new_goes goes_new w t ≡ true → goes_by 0 (not (is_there w)) t.class ≡ true
+  pub flag_goes : (w : Option Given) (t : Lexeme) → new_goes goes_new w t ≡ true → goes_by 0 (not (is_there w)) t.class ≡ true
   flag_goes None t i = i
   flag_goes (Some v) t i = cc
 
@@ -163,7 +163,7 @@ module _ (left : ℕ) (d : Sound left) where
   unfolding same_class
   exactly_paren_typeid = exactly_before (is k.OpenParen) (exactly_behind (is k.CloseParen) (exactly_typeid left d) (apart goes_typeid (just k.CloseParen) refl))
 
-  nothing_goes : (v : Operand) (t : Lexeme) → by never v t ≡ true → goes_operand 0 v t ≡ true
+  pub nothing_goes : (v : Operand) (t : Lexeme) → by never v t ≡ true → goes_operand 0 v t ≡ true
   nothing_goes v t i = cc
 
   pub exactly_alignof : Exactly (λ n. g.alignof_type (g.deeper n)) (goes_operand 0) left (r.alignof_type (r.deeper left))

@@ -45,7 +45,7 @@ stopped {A = A} {L = L} {q = q} {left = left} g ts l e = let P : Outcome Lexeme 
 module _ (left : ℕ) (d : Sound left) where
   -- ---- names: an expression's or a type's
 
-  exactly_id_expression : Exactly (λ n. g.id_expression (g.deeper n)) (by (at goes_name)) left (r.id_expression (r.deeper left))
+  pub exactly_id_expression : Exactly (λ n. g.id_expression (g.deeper n)) (by (at goes_name)) left (r.id_expression (r.deeper left))
   exactly_id_expression = exactly_id left (r.deeper left)
 
   pub exactly_type_made : Exactly (λ n. g.type_made (g.deeper n)) (by never) left (r.type_made (r.deeper left))
@@ -55,22 +55,22 @@ module _ (left : ℕ) (d : Sound left) where
   abbrev given_behind : Outcome Lexeme TypeName → Outcome Lexeme ExprKind
   given_behind o = made made_of_type (o >>= (λ a rest. made (λ b. (a, b)) (r.given (r.deeper left) rest)))
 
-  reach_made : (v : TypeName) (o : Outcome Lexeme Given) → reach (made made_of_type (made (λ b. (v, b)) o)) ≡ reach o
+  pub reach_made : (v : TypeName) (o : Outcome Lexeme Given) → reach (made made_of_type (made (λ b. (v, b)) o)) ≡ reach o
   reach_made v (done w rest) = refl
   reach_made v (stop rule l) = refl
 
-  made_is : (ts : List Lexeme) (o : Outcome Lexeme TypeName) → r.qtype ts ≡ o → r.type_made (r.deeper left) ts ≡ given_behind o
+  pub made_is : (ts : List Lexeme) (o : Outcome Lexeme TypeName) → r.qtype ts ≡ o → r.type_made (r.deeper left) ts ≡ given_behind o
   unfolding r.type_made
   made_is ts o e = ap given_behind e
 
-  type_reach : (ts rest : List Lexeme) (v : TypeName) → r.qtype ts ≡ done v rest → reach (r.type_made (r.deeper left) ts) ≤ length rest
+  pub type_reach : (ts rest : List Lexeme) (v : TypeName) → r.qtype ts ≡ done v rest → reach (r.type_made (r.deeper left) ts) ≤ length rest
   type_reach ts rest v e = let q = ap reach (made_is ts (done v rest) e) ∙ reach_made v (r.given (r.deeper left) rest) in
       let w = reach_within (λ n. g.given (g.deeper n)) (by never) left rest (r.given (r.deeper left) rest) ((exactly_given left d).at rest) in omega arith
 
   abbrev names_read : List Lexeme → Bool → Outcome Lexeme ExprKind
   names_read ts b = if b then r.type_made (r.deeper left) ts else r.id_expression (r.deeper left) ts
 
-  named_by : (ts : List Lexeme) → Told (qtype_end ts) (r.qtype ts) (r.id_expression (r.deeper left) ts) → Right (λ n. g.id_expression (g.deeper n) ∥ g.type_made (g.deeper n)) (by (at goes_head)) left ts (names_read ts (found (qtype_end ts)))
+  pub named_by : (ts : List Lexeme) → Told (qtype_end ts) (r.qtype ts) (r.id_expression (r.deeper left) ts) → Right (λ n. g.id_expression (g.deeper n) ∥ g.type_made (g.deeper n)) (by (at goes_head)) left ts (names_read ts (found (qtype_end ts)))
   unfolding same_class
   named_by ts (is_type_name rest v e a o) =
       let s = stopped exactly_id_expression ts (length rest) o in
@@ -85,12 +85,12 @@ module _ (left : ℕ) (d : Sound left) where
       (covers_present (covers_go (by never) (by (at goes_head)) (λ w t i. never_sub (at goes_head) t i) (stop_covers (λ n. g.type_made (g.deeper n)) (by never) left ts l s)))
       (let z = s.size in omega arith))
 
-  exactly_named_head : Exactly (λ n. g.id_expression (g.deeper n) ∥ g.type_made (g.deeper n)) (by (at goes_head)) left (r.named_head (r.deeper left))
+  pub exactly_named_head : Exactly (λ n. g.id_expression (g.deeper n) ∥ g.type_made (g.deeper n)) (by (at goes_head)) left (r.named_head (r.deeper left))
   exactly_named_head = record { at = λ ts. (named_by ts (told (r.deeper left) ts)).exact }
 
   -- ---- heads
 
-  exactly_string : Exactly (λ n. g.string (g.deeper n)) (by (at is_string)) left (r.string (r.deeper left))
+  pub exactly_string : Exactly (λ n. g.string (g.deeper n)) (by (at is_string)) left (r.string (r.deeper left))
   unfolding r.string
   exactly_string = exactly_as e.Str (exactly_as joined (exactly_open (at is_string) exactly_token
       (exactly_many (at is_string) (heads_pick is_string text_of) (present_at refl (λ n. refl) exactly_token) (never_sub (at is_string)) (same_sub (at is_string)) (never_apart (at is_string)))
@@ -100,19 +100,19 @@ module _ (left : ℕ) (d : Sound left) where
   unfolding same_class
   exactly_paren_expr there = exactly_before (is k.OpenParen) (exactly_behind (is k.CloseParen) (d.expr there) (apart goes_args (just k.CloseParen) refl))
 
-  paren_at : ExactlyAt (at (just k.OpenParen)) (λ n. present (g.paren (g.deeper n))) (by (at goes_head)) left (r.paren (r.deeper left))
+  pub paren_at : ExactlyAt (at (just k.OpenParen)) (λ n. present (g.paren (g.deeper n))) (by (at goes_head)) left (r.paren (r.deeper left))
   unfolding r.paren
   paren_at = exactly_on (at (just k.OpenParen)) (r.paren (r.deeper left)) (λ t ts s. marked (λ n. (r.deeper n).room) h.room left (b.paren_marked t s)
       (λ there. exactly_widened (never_sub (at goes_head)) (exactly_as e.Paren (exactly_paren_expr there))))
 
-  cast_there : (r.deeper left).room ≡ true → Exactly (λ n. g.word_cast (g.deeper n)) (by (at goes_head)) left (named_cast <$$> r.word_cast_parts (r.deeper left))
+  pub cast_there : (r.deeper left).room ≡ true → Exactly (λ n. g.word_cast (g.deeper n)) (by (at goes_head)) left (named_cast <$$> r.word_cast_parts (r.deeper left))
   unfolding same_class
   cast_there there = exactly_widened (never_sub (at goes_head)) (exactly_as named_cast (exactly_both exactly_token
       (exactly_both (exactly_before (is k.Less) (exactly_behind (is k.Greater) (exactly_typeid left d) (apart goes_typeid (just k.Greater) refl))) (exactly_paren_expr there)
       (heads_before {G = λ n. (g.deeper n).expr ⊲ is k.CloseParen} (is k.OpenParen)) (never_apart (is k.OpenParen)))
       (heads_both _ (heads_before {G = λ n. g.typeid (g.deeper n) ⊲ is k.Greater} (is k.Less))) (never_apart (is k.Less))))
 
-  word_cast_at : ExactlyAt (at is_cast_word) (λ n. present (g.word_cast (g.deeper n))) (by (at goes_head)) left (r.word_cast (r.deeper left))
+  pub word_cast_at : ExactlyAt (at is_cast_word) (λ n. present (g.word_cast (g.deeper n))) (by (at goes_head)) left (r.word_cast (r.deeper left))
   unfolding r.word_cast
   word_cast_at = exactly_on (at is_cast_word) (r.word_cast (r.deeper left)) (λ t ts s. marked (λ n. (r.deeper n).room) h.room left (b.word_cast_marked t s) cast_there)
 
@@ -120,7 +120,7 @@ module _ (left : ℕ) (d : Sound left) where
   unfolding r.word_made
   exactly_word_made = exactly_as made_of_word (exactly_both exactly_token (exactly_given left d) h.heads_given (never_apart (at starts_given)))
 
-  exactly_head_kind : Exactly (λ n. g.head_kind (g.deeper n)) (by (at goes_head)) left (r.head_kind (r.deeper left))
+  pub exactly_head_kind : Exactly (λ n. g.head_kind (g.deeper n)) (by (at goes_head)) left (r.head_kind (r.deeper left))
   unfolding r.head_kind same_class
   exactly_head_kind = exactly_choice is_literal h.starts_string_or_more refl h.heads_literal h.heads_string_or_more (present_at refl (λ n. refl) (exactly_widened (never_sub (at goes_head)) exactly_token))
       (exactly_pair (exactly_choice is_string h.starts_paren_or_made refl h.heads_string h.heads_paren_or_made (present_at refl (λ n. refl) (exactly_widened (sub is_string goes_head refl) exactly_string))
@@ -135,12 +135,12 @@ module _ (left : ℕ) (d : Sound left) where
 
   -- ---- what stands behind a head
 
-  subscript_at : ExactlyAt (at (just k.OpenBracket)) (λ n. present (g.subscript (g.deeper n))) (by (at goes_name)) left (r.subscript (r.deeper left))
+  pub subscript_at : ExactlyAt (at (just k.OpenBracket)) (λ n. present (g.subscript (g.deeper n))) (by (at goes_name)) left (r.subscript (r.deeper left))
   unfolding r.subscript same_class
   subscript_at = exactly_on (at (just k.OpenBracket)) (r.subscript (r.deeper left)) (λ t ts s. marked (λ n. (r.deeper n).room) h.room left (b.subscript_marked t s)
       (λ there. exactly_widened (never_sub (at goes_name)) (exactly_as m.Subscript (exactly_before (is k.OpenBracket) (exactly_behind (is k.CloseBracket) (d.expr there) (apart goes_args (just k.CloseBracket) refl))))))
 
-  exactly_member_part : Exactly (λ n. g.member_part) (by (at goes_name)) left (r.member_part (r.deeper left))
+  pub exactly_member_part : Exactly (λ n. g.member_part) (by (at goes_name)) left (r.member_part (r.deeper left))
   unfolding r.member_part same_class
   exactly_member_part = exactly_same (swapped (λ n. part.Destructor <$> (is k.Tilde ⊳ g.type_only ⊲ is k.OpenParen ⊲ is k.CloseParen)) (λ n. part.Name <$> g.fname))
       (exactly_choice (just k.Tilde) starts_fname refl h.heads_destructor h.heads_member_name
@@ -148,11 +148,11 @@ module _ (left : ℕ) (d : Sound left) where
       (exactly_behind (is k.CloseParen) (exactly_behind (is k.OpenParen) exactly_token (never_apart (is k.OpenParen))) (never_apart (is k.CloseParen)))))))
       (exactly_stays refl (λ n. refl) (exactly_as part.Name (exactly_fname left))))
 
-  exactly_member : Exactly (λ n. g.member) (by (at goes_name)) left (r.member (r.deeper left))
+  pub exactly_member : Exactly (λ n. g.member) (by (at goes_name)) left (r.member (r.deeper left))
   unfolding r.member
   exactly_member = exactly_as member_of (exactly_both exactly_token exactly_member_part h.heads_member_part (never_apart (at h.starts_member_part)))
 
-  exactly_more_kind : Exactly (λ n. g.more_kind (g.deeper n)) (by (at goes_name)) left (r.more_kind (r.deeper left))
+  pub exactly_more_kind : Exactly (λ n. g.more_kind (g.deeper n)) (by (at goes_name)) left (r.more_kind (r.deeper left))
   unfolding r.more_kind same_class
   exactly_more_kind = exactly_choice (just k.OpenBracket) h.starts_call_or_more refl h.heads_subscript h.heads_call_or_more subscript_at
       (exactly_pair (exactly_choice (just k.OpenParen) h.starts_step_or_member refl h.heads_call h.heads_step_or_member (present_at refl (λ n. refl) (exactly_widened (never_sub (at goes_name)) (exactly_as m.Call (exactly_paren_args left d))))

@@ -6,10 +6,10 @@ use Rattle.cx_grammar.specs.Reading.{Reader}
 use Rattle.cx_grammar.proofs.Steps.{Exactly}
 
 module _ {T A : Type 0} (L : Family T A) (go : A → T → Bool) (ts : List T) where
-  whole : ts ≡ ts ++ []
+  pub whole : ts ≡ ts ++ []
   whole = sym (append-nil ts)
 
-  one_read : (n m : ℕ) (a b : A) (o : Outcome T A) → Exact L go n ts o → (L n).spells ts a → (L m).spells ts b → a ≡ b
+  pub one_read : (n m : ℕ) (a b : A) (o : Outcome T A) → Exact L go n ts o → (L n).spells ts a → (L m).spells ts b → a ≡ b
   one_read n m a b (done v rest) e s z = elim (e.core.only n tt ts [] a whole s) [
     | same x y p ↦ elim (e.core.only m tt ts [] b whole z) [ same x2 y2 q ↦ p ∙ sym q | shorter within goes ↦ absurd goes ]
     | shorter within goes ↦ absurd goes

@@ -33,7 +33,7 @@ goes_typed c = is_modifier_or_word c || goes_name c
 
 -- ---- the type among specifiers
 
-exactly_elaborations : (left : ℕ) → Exactly (λ n. maybe (one (pick is_elaboration elaboration_of))) (by (at is_elaboration)) left r.elaboration
+pub exactly_elaborations : (left : ℕ) → Exactly (λ n. maybe (one (pick is_elaboration elaboration_of))) (by (at is_elaboration)) left r.elaboration
 exactly_elaborations left = exactly_maybe (at is_elaboration) (heads_pick is_elaboration elaboration_of) (present_at refl (λ n. refl) exactly_token) (never_sub (at is_elaboration)) (same_sub (at is_elaboration))
 
 pub exactly_named : (left : ℕ) → Exactly (λ n. g.named) (by (at goes_name)) left r.named
@@ -46,7 +46,7 @@ heads_named = heads_as named_of (heads_after (opens_sub (sub is_elaboration star
 pub exactly_modifiers : (left : ℕ) → Exactly (λ n. many g.modifier) (by (at is_modifier)) left r.modifiers
 exactly_modifiers left = exactly_many (at is_modifier) (heads_pick is_modifier modifier_of) (present_at refl (λ n. refl) exactly_token) (never_sub (at is_modifier)) (same_sub (at is_modifier)) (never_apart (at is_modifier))
 
-exactly_words : (left : ℕ) → Exactly (λ n. many (one (pick is_modifier_or_word either_of))) (by (at is_modifier_or_word)) left r.words_behind
+pub exactly_words : (left : ℕ) → Exactly (λ n. many (one (pick is_modifier_or_word either_of))) (by (at is_modifier_or_word)) left r.words_behind
 exactly_words left = exactly_many (at is_modifier_or_word) (heads_pick is_modifier_or_word either_of) (present_at refl (λ n. refl) exactly_token) (never_sub (at is_modifier_or_word)) (same_sub (at is_modifier_or_word)) (never_apart (at is_modifier_or_word))
 
 pub exactly_words_type : (left : ℕ) → Exactly (λ n. g.words_type) (by (at is_modifier_or_word)) left r.words_type
@@ -77,10 +77,10 @@ exactly_typed left = exactly_choice is_word starts_named refl heads_words_type h
 
 -- ---- specifiers
 
-abbrev unspecified : Family Lexeme (List Modifier × Option SpecsType)
+abbrev pub unspecified : Family Lexeme (List Modifier × Option SpecsType)
 unspecified n = many g.modifier >> maybe (g.words_type ∥ g.name_type)
 
-exactly_unspecified : (left : ℕ) → Exactly unspecified (by (at starts_specs)) left r.specs_parts
+pub exactly_unspecified : (left : ℕ) → Exactly unspecified (by (at starts_specs)) left r.specs_parts
 unfolding same_class
 exactly_unspecified left = exactly_open (at starts_specs) (exactly_modifiers left)
     (exactly_maybe (at starts_specs) heads_typed (present_at refl (λ n. refl) (exactly_typed left)) (sub goes_typed starts_specs refl) (sub starts_typed starts_specs refl))
@@ -90,29 +90,29 @@ pub exactly_specs : (left : ℕ) → Exactly (λ n. g.specs) (by (at starts_spec
 unfolding r.specs
 exactly_specs left = exactly_as specs_of (exactly_measured span_of (exactly_such is_specified (exactly_unspecified left)))
 
-opens_unspecified : Opens unspecified (at starts_specs)
+pub opens_unspecified : Opens unspecified (at starts_specs)
 opens_unspecified = opens_both (opens_sub (sub is_modifier starts_specs refl) (opens_many (heads_pick is_modifier modifier_of))) (opens_sub (sub starts_typed starts_specs refl) (opens_maybe heads_typed))
 
 pub no_modifier : (v : Modifier) (front back : List Lexeme) → [] ≡ front ++ back → g.modifier.spells front v → ⊥
 no_modifier v front back e s = (heads_pick is_modifier modifier_of).full 0 v (let P : List Lexeme → Type 0 = λ l. g.modifier.spells l v in subst P (no_front front back (sym e)) s)
 
-nothing_specified : (ms : List Modifier) (o : Option SpecsType) → SpellsMany g.modifier [] ms → (maybe (g.words_type ∥ g.name_type)).spells [] o → is_specified (ms, o) ≡ true → ⊥
+pub nothing_specified : (ms : List Modifier) (o : Option SpecsType) → SpellsMany g.modifier [] ms → (maybe (g.words_type ∥ g.name_type)).spells [] o → is_specified (ms, o) ≡ true → ⊥
 nothing_specified (m ∷ ms) o s t e = no_modifier m s.0 s.1 s.2 s.3
 nothing_specified [] None s t e = cc
 nothing_specified [] (Some v) s (inl a) e = let no_type = a.made in cc
 nothing_specified [] (Some v) s (inr a) e = heads_typed.full 0 a.value a.part
 
-back_blank : (x y : List Lexeme) → [] ≡ x ++ y → y ≡ []
+pub back_blank : (x y : List Lexeme) → [] ≡ x ++ y → y ≡ []
 back_blank [] y e = sym e
 back_blank (t ∷ x) y e = cc
 
-specs_full : (n : ℕ) (w : List Modifier × Option SpecsType) → (such is_specified (unspecified n)).spells [] w → ⊥
+pub specs_full : (n : ℕ) (w : List Modifier × Option SpecsType) → (such is_specified (unspecified n)).spells [] w → ⊥
 specs_full n w s = let p = s.part in
     let P : List Lexeme → Type 0 = λ l. SpellsMany g.modifier l w.0 in
     let Q : List Lexeme → Type 0 = λ l. (maybe (g.words_type ∥ g.name_type)).spells l w.1 in
     nothing_specified w.0 w.1 (subst P (no_front p.front p.back (sym p.cut)) p.first) (subst Q (back_blank p.front p.back p.cut) p.second) s.such_a
 
-heads_specified : Heads (λ n. such is_specified (unspecified n)) (at starts_specs)
+pub heads_specified : Heads (λ n. such is_specified (unspecified n)) (at starts_specs)
 heads_specified = record {
   blank = λ n. in_first (record { front = []; back = []; cut = refl; turns = []; whole = refl; next = none_yet refl });
   full = specs_full;

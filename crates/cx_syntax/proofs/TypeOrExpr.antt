@@ -25,7 +25,7 @@ use Rattle.cx_syntax.specs.Readers as r
 use Rattle.cx_syntax.specs.Readers.{just}
 use Rattle.cx_syntax.proofs.Basics.{at, apart, sub, false_of, heads_pick}
 use Rattle.cx_syntax.proofs.Names.{goes_name, exactly_qtype, heads_qtype}
-use Rattle.cx_syntax.proofs.Specifiers.{heads_words_type, heads_name_type, no_modifier}
+use Rattle.cx_syntax.proofs.Specifiers.{heads_specs, heads_words_type, heads_name_type, no_modifier}
 use Rattle.cx_syntax.proofs.Linked.{opens_links}
 use Rattle.cx_syntax.proofs.Depth as h
 use Rattle.cx_syntax.proofs.Lists.{heads_behind_specs, opens_declarator}
@@ -48,7 +48,7 @@ pub not_seen : {p q : Lexeme → Bool} → Sub p q → (ts : List Lexeme) → se
 not_seen k [] e = refl
 not_seen {p = p} k (t ∷ ts) e = false_of (p t) (λ i. let both : true ≡ false = sym (k t i) ∙ e in cc)
 
-level_past : (p : ℕ) → Sub (at (operators p)) (at goes_past)
+pub level_past : (p : ℕ) → Sub (at (operators p)) (at goes_past)
 level_past zero = sub (operators 0) goes_past refl
 level_past (suc zero) = sub (operators 1) goes_past refl
 level_past (suc (suc zero)) = sub (operators 2) goes_past refl
@@ -61,23 +61,23 @@ level_past (suc (suc (suc (suc (suc (suc (suc (suc zero)))))))) = sub (operators
 level_past (suc (suc (suc (suc (suc (suc (suc (suc (suc zero))))))))) = sub (operators 9) goes_past refl
 level_past (suc (suc (suc (suc (suc (suc (suc (suc (suc (suc p)))))))))) = λ t e. cc
 
-and_left : (b c : Bool) → (b && c) ≡ true → b ≡ true
+pub and_left : (b c : Bool) → (b && c) ≡ true → b ≡ true
 and_left true c e = refl
 and_left false c e = e
 
-allowed_level : (p : ℕ) (b : Bool) → Sub (at (allowed p b)) (at (operators p))
+pub allowed_level : (p : ℕ) (b : Bool) → Sub (at (allowed p b)) (at (operators p))
 allowed_level p b t e = and_left (operators p t.class) (not (b && is_after_new t.class)) e
 
 -- ---- how far an expr goes where a head goes so far
 
 module _ (q : Class → Bool) (a : Apart (at q) (at goes_past)) (u run : List Lexeme) (other : sees (at starts_other) u ≡ false) (s : Short (λ n. g.head_kind (g.deeper n)) (at q) u run) where
-  short_head : Short (λ n. g.head (g.deeper n)) (at q) u run
+  pub short_head : Short (λ n. g.head (g.deeper n)) (at q) u run
   short_head = short_as expr_of (short_measured span_of s)
 
-  short_postfix : Short (λ n. g.postfix (g.deeper n)) (at q) u run
+  pub short_postfix : Short (λ n. g.postfix (g.deeper n)) (at q) u run
   short_postfix = short_as postfixed (short_measured span_of (short_both short_head (opens_many h.heads_more) (λ t i j. a t i (sub starts_more goes_past refl t j))))
 
-  short_unary : Short (λ n. g.unary (g.deeper n)) (at q) u run
+  pub short_unary : Short (λ n. g.unary (g.deeper n)) (at q) u run
   unfolding same_class
   short_unary = short_two (never_short (at q) (never_elsewhere h.heads_prefix u (not_seen (sub is_prefix starts_other refl) u other) run))
       (short_two (never_short (at q) (never_elsewhere h.heads_delete u (not_seen (sub (just k.Delete) starts_other refl) u other) run))
@@ -85,14 +85,14 @@ module _ (q : Class → Bool) (a : Apart (at q) (at goes_past)) (u run : List Le
       (short_two (never_short (at q) (never_elsewhere h.heads_alignof u (not_seen (sub (just k.Alignof) starts_other refl) u other) run))
       (short_two (never_short (at q) (never_elsewhere h.heads_sizeof u (not_seen (sub (just k.Sizeof) starts_other refl) u other) run)) (short_as closed short_postfix)))))
 
-  short_chain : (p : ℕ) → Short (λ n. g.chain (g.deeper n) p) (at q) u run
+  pub short_chain : (p : ℕ) → Short (λ n. g.chain (g.deeper n) p) (at q) u run
   unfolding same_class
   short_chain zero = short_two (never_short (at q) (never_elsewhere h.heads_type_cast u (not_seen (sub (just k.OpenParen) starts_other refl) u other) run)) short_unary
   short_chain (suc p) = short_as chained (short_measured span_of (short_then (λ (first : Operand) n. links (g.turn (g.deeper n) p (g.chain (g.deeper n) p)) ends_open first.1) (short_chain p)
       (λ first. opens_links (λ b n. g.turn (g.deeper n) p (g.chain (g.deeper n) p) b) ends_open (at (operators p)) (λ b. heads_sub (allowed_level p b) (heads_both _ (heads_pick (allowed p b) binary_of))) first.1)
       (λ t i j. a t i (level_past p t j))))
 
-  short_assign : Short (λ n. g.assign (g.deeper n)) (at q) u run
+  pub short_assign : Short (λ n. g.assign (g.deeper n)) (at q) u run
   unfolding same_class
   short_assign = short_two (never_short (at q) (never_elsewhere h.heads_throw u (not_seen (sub (just k.Throw) starts_other refl) u other) run))
       (short_as tailed (short_measured span_of (short_both (short_chain 10) (opens_maybe h.heads_tail) (λ t i j. a t i (sub starts_tail goes_past refl t j)))))
@@ -149,7 +149,7 @@ short_head_kind q u run other made id type = short_two (never_short (at q) (neve
     (short_two (never_short (at q) (never_elsewhere h.heads_word_cast u (not_seen (sub is_cast_word starts_primary refl) u other) run))
     (short_two made (short_two id type)))))
 
-blocked_seen : (q : Lexeme → Bool) (y : List Lexeme) → sees q y ≡ true → Blocked q y
+pub blocked_seen : (q : Lexeme → Bool) (y : List Lexeme) → sees q y ≡ true → Blocked q y
 blocked_seen q [] e = absurd (let c : false ≡ true = e in cc)
 blocked_seen q (u ∷ y) e = λ t r c. let same_token : u ≡ t = cc in subst (λ z. q z ≡ true) same_token e
 
@@ -167,7 +167,7 @@ abbrev pub ends_type : Class → Bool
 ends_type c = starts_given c || goes_name c
 
 module _ (u run : List Lexeme) (no_mod : sees (at is_modifier) u ≡ false) where
-  specified_only : (s : Short (λ n. g.words_type ∥ g.name_type) (at ends_type) u run) (n : ℕ) (x y f l : List Lexeme) (ms : List Modifier) (o : Option SpecsType) → u ≡ x ++ y → x ≡ f ++ l → (many g.modifier).spells f ms
+  pub specified_only : (s : Short (λ n. g.words_type ∥ g.name_type) (at ends_type) u run) (n : ℕ) (x y f l : List Lexeme) (ms : List Modifier) (o : Option SpecsType) → u ≡ x ++ y → x ≡ f ++ l → (many g.modifier).spells f ms
       → (maybe (g.words_type ∥ g.name_type)).spells l o → is_specified (ms, o) ≡ true → Within run x × Blocked (at ends_type) y
   specified_only s n x y (t ∷ f) l ms o e cut z w i = let m = (opens_many (heads_pick is_modifier modifier_of)).spells n t f ms z in
       absurd (let first : u ≡ t ∷ (f ++ l ++ y) = e ∙ ap (λ v. v ++ y) cut in let both : true ≡ false = sym m ∙ (sym (ap (sees (at is_modifier)) first) ∙ no_mod) in cc)
@@ -176,7 +176,7 @@ module _ (u run : List Lexeme) (no_mod : sees (at is_modifier) u ≡ false) wher
   specified_only s n x y [] l [] (Some v) e cut z (inl a) i = let no_type = a.made in cc
   specified_only s n x y [] l [] (Some v) e cut z (inr a) i = s.only n x y a.value e (let P : List Lexeme → Type 0 = λ v. (g.words_type ∥ g.name_type).spells v a.value in subst P (sym cut) a.part)
 
-  specified_begun : (s : Short (λ n. g.words_type ∥ g.name_type) (at ends_type) u run) (n : ℕ) (x y f l : List Lexeme) (ms : List Modifier) → u ≡ x ++ y → x ≡ f ++ l → (many g.modifier).spells f ms
+  pub specified_begun : (s : Short (λ n. g.words_type ∥ g.name_type) (at ends_type) u run) (n : ℕ) (x y f l : List Lexeme) (ms : List Modifier) → u ≡ x ++ y → x ≡ f ++ l → (many g.modifier).spells f ms
       → (maybe (g.words_type ∥ g.name_type)).begins l → Within run x
   specified_begun s n x y (t ∷ f) l ms e cut z b = let m = (opens_many (heads_pick is_modifier modifier_of)).spells n t f ms z in
       absurd (let first : u ≡ t ∷ (f ++ l ++ y) = e ∙ ap (λ v. v ++ y) cut in let both : true ≡ false = sym m ∙ (sym (ap (sees (at is_modifier)) first) ∙ no_mod) in cc)
@@ -184,31 +184,34 @@ module _ (u run : List Lexeme) (no_mod : sees (at is_modifier) u ≡ false) wher
   specified_begun s n x y [] l ms e cut z (inr (none_yet none)) = none_front run x (cut ∙ none)
   specified_begun s n x y [] l ms e cut z (inr (some st b)) = s.ends n x y e (let P : List Lexeme → Type 0 = λ v. (g.words_type ∥ g.name_type).begins v in subst P (sym cut) b)
 
-  modifiers_begun : (n : ℕ) (x y : List Lexeme) → u ≡ x ++ y → (many g.modifier).begins x → Within run x
+  pub modifiers_begun : (n : ℕ) (x y : List Lexeme) → u ≡ x ++ y → (many g.modifier).begins x → Within run x
   modifiers_begun n [] y e b = none_front run [] refl
   modifiers_begun n (t ∷ x) y e b = let m = (opens_many {G = λ (n : ℕ). g.modifier} (heads_pick is_modifier modifier_of)).begins n t x b in absurd (let both : true ≡ false = sym m ∙ (sym (ap (sees (at is_modifier)) e) ∙ no_mod) in cc)
 
-  short_specs : Short (λ n. g.words_type ∥ g.name_type) (at ends_type) u run → Short (λ n. g.specs) (at ends_type) u run
+  pub short_specs : Short (λ n. g.words_type ∥ g.name_type) (at ends_type) u run → Short (λ n. g.specs) (at ends_type) u run
   short_specs s = short_as specs_of (short_measured span_of (record {
     only = λ n x y w e z. specified_only s n x y z.part.front z.part.back w.0 w.1 e z.part.cut z.part.first z.part.second z.such_a;
     ends = λ n x y e b. elim b [ in_first c ↦ modifiers_begun n x y e c | in_second f l v cut z c ↦ specified_begun s n x y f l v e cut z c ];
   }))
 
-  short_typeid : Short (λ n. g.words_type ∥ g.name_type) (at ends_type) u run → Short (λ n. g.typeid (g.deeper n)) (at ends_type) u run
+  pub short_typeid : Short (λ n. g.words_type ∥ g.name_type) (at ends_type) u run → Short (λ n. g.typeid (g.deeper n)) (at ends_type) u run
   unfolding same_class
   short_typeid s = short_as typeid_of (short_measured span_of (short_both (short_specs s) opens_declarator (apart ends_type heads_behind_specs refl)))
 
-short_name_type : (u run : List Lexeme) → sees (at is_elaboration) u ≡ false → Short (λ n. g.qtype) (at ends_type) u run → Short (λ n. g.name_type) (at ends_type) u run
+pub short_name_type : (u run : List Lexeme) → sees (at is_elaboration) u ≡ false → Short (λ n. g.qtype) (at ends_type) u run → Short (λ n. g.name_type) (at ends_type) u run
 unfolding same_class
 short_name_type u run none s = short_as named_type (short_both (short_as named_of (short_skip (opens_maybe (heads_pick is_elaboration elaboration_of)) none s)) (opens_many (heads_pick is_modifier modifier_of)) (apart ends_type is_modifier refl))
 
-typed_typeid : (n : ℕ) (x : List Lexeme) → (g.words_type ∥ g.name_type).begins x → (g.typeid (g.deeper n)).begins x
-typed_typeid n x b = in_first (in_second [] x [] refl refl (inr (some refl b)))
+pub typed_specs : (x : List Lexeme) → (g.words_type ∥ g.name_type).begins x → g.specs.begins x
+typed_specs x b = in_second [] x [] refl refl (inr (some refl b))
 
-word_typed : (x : List Lexeme) → g.word.begins x → (g.words_type ∥ g.name_type).begins x
+pub typed_typeid : (n : ℕ) (x : List Lexeme) → (g.words_type ∥ g.name_type).begins x → (g.typeid (g.deeper n)).begins x
+typed_typeid n x b = in_first (typed_specs x b)
+
+pub word_typed : (x : List Lexeme) → g.word.begins x → (g.words_type ∥ g.name_type).begins x
 word_typed x b = inl (some refl (in_first b))
 
-qtype_typed : (x : List Lexeme) → g.qtype.begins x → (g.words_type ∥ g.name_type).begins x
+pub qtype_typed : (x : List Lexeme) → g.qtype.begins x → (g.words_type ∥ g.name_type).begins x
 qtype_typed x b = inr (some refl (in_first (in_second [] x None refl (inl (record { value = tt; made = refl; part = refl })) b)))
 
 -- ---- a type comes next
@@ -217,7 +220,8 @@ pub record TypeFront (u : List Lexeme) : Type 0 where
   pub run : List Lexeme
   pub rest : List Lexeme
   pub cut : u ≡ run ++ rest
-  -- a typeid begins with the run
+  -- specs and a typeid begin with the run
+  pub specs : g.specs.begins run
   pub types : (n : ℕ) → (g.typeid (g.deeper n)).begins run
   -- an expr goes no further, and what it spells ends before `::`
   pub expr : Short (λ n. g.expr (g.deeper n)) (at goes_name) u run
@@ -244,7 +248,7 @@ pub record ExprAt (u run rest : List Lexeme) : Type 0 where
 abbrev pub front_at : {u run rest : List Lexeme} → ExprAt u run rest → ExprFront u
 front_at {run = run} {rest = rest} f = record { run = run; rest = rest; cut = f.cut; exprs = f.exprs; types = f.types; typeid = f.typeid }
 
-whole_front : (x : List Lexeme) → x ≡ x ++ []
+pub whole_front : (x : List Lexeme) → x ≡ x ++ []
 whole_front x = sym (append-nil x)
 
 pub seen_head : {A : Type 0} {L : Family Lexeme A} {p : Lexeme → Bool} → Heads L p → (n : ℕ) (used rest u : List Lexeme) (v : A) → u ≡ used ++ rest → (L n).spells used v → sees p u ≡ true
@@ -255,11 +259,12 @@ pub unseen_by : {p q : Lexeme → Bool} → Apart p q → (ts : List Lexeme) →
 unseen_by a [] e = refl
 unseen_by {q = q} a (t ∷ ts) e = false_of (q t) (λ h. a t e h)
 
-type_at_type : (u : List Lexeme) → sees (at begins_type) u ≡ true → TypeFront u
+pub type_at_type : (u : List Lexeme) → sees (at begins_type) u ≡ true → TypeFront u
 type_at_type u e = record {
   run = [];
   rest = u;
   cut = refl;
+  specs = heads_specs.blank 0;
   types = h.heads_typeid.blank;
   expr = never_short (at goes_name) (never_elsewhere h.heads_expr u (unseen_by (apart begins_type starts_assign refl) u e) []);
 }
@@ -269,12 +274,13 @@ module _ (t : Lexeme) (rest : List Lexeme) (is_it : is_word t.class ≡ true) wh
   pub word_read : Exact (λ n. g.word) (by never) 0 (t ∷ rest) (done (word_of t) rest)
   word_read = let P : Outcome Lexeme _ → Type 0 = λ o. Exact (λ n. g.word) (by never) 0 (t ∷ rest) o in subst P (ap (λ b. token_by (if b then Some (word_of t) else None) t rest) is_it) ((exactly_token {f = pick is_word word_of} {least = 0}).at (t ∷ rest))
 
-  type_at_word : sees (at starts_given) rest ≡ false → TypeFront (t ∷ rest)
+  pub type_at_word : sees (at starts_given) rest ≡ false → TypeFront (t ∷ rest)
   unfolding same_class
   type_at_word e = record {
     run = word_read.used;
     rest = rest;
     cut = word_read.core.cut;
+    specs = typed_specs word_read.used (word_typed word_read.used (word_read.core.begins 0 (omega arith) word_read.used [] (whole_front word_read.used)));
     types = λ n. typed_typeid n word_read.used (word_typed word_read.used (word_read.core.begins 0 (omega arith) word_read.used [] (whole_front word_read.used)));
     expr = short_expr goes_name (apart goes_name goes_past refl) (t ∷ rest) word_read.used (unseen_by (apart is_word starts_other refl) (t ∷ rest) is_it)
         (short_head_kind goes_name (t ∷ rest) word_read.used (unseen_by (apart is_word starts_primary refl) (t ∷ rest) is_it)
@@ -301,15 +307,16 @@ module _ (u : List Lexeme) where
     pub qtype_read : Exact (λ n. g.qtype) (by (at goes_name)) 0 u (done v rest)
     qtype_read = let P : Outcome Lexeme _ → Type 0 = λ o. Exact (λ n. g.qtype) (by (at goes_name)) 0 u o in subst P a ((exactly_qtype 0).at u)
 
-    name_first : sees (at starts_name) u ≡ true
+    pub name_first : sees (at starts_name) u ≡ true
     name_first = seen_head heads_qtype 0 qtype_read.used rest u v qtype_read.core.cut (qtype_read.spells 0 (omega arith))
 
-    type_at_name : r.id_expression (r.deeper 0) u ≡ stop Syntax (length rest) → sees (at starts_given) rest ≡ false → TypeFront u
+    pub type_at_name : r.id_expression (r.deeper 0) u ≡ stop Syntax (length rest) → sees (at starts_given) rest ≡ false → TypeFront u
     unfolding same_class
     type_at_name o e = let s = stopped (exactly_id 0 (r.deeper 0)) u (length rest) o in record {
       run = qtype_read.used;
       rest = rest;
       cut = qtype_read.core.cut;
+      specs = typed_specs qtype_read.used (qtype_typed qtype_read.used (qtype_read.core.begins 0 (omega arith) qtype_read.used [] (whole_front qtype_read.used)));
       types = λ n. typed_typeid n qtype_read.used (qtype_typed qtype_read.used (qtype_read.core.begins 0 (omega arith) qtype_read.used [] (whole_front qtype_read.used)));
       expr = short_expr goes_name (apart goes_name goes_past refl) u qtype_read.used (unseen_by (apart starts_name starts_other refl) u name_first)
           (short_head_kind goes_name u qtype_read.used (unseen_by (apart starts_name starts_primary refl) u name_first)
@@ -357,14 +364,14 @@ pub not_false : (b : Bool) → not b ≡ false → b ≡ true
 not_false true e = refl
 not_false false e = cc
 
-abbrev by_word : Bool → List Lexeme → Bool
+abbrev pub by_word : Bool → List Lexeme → Bool
 by_word b u = if b then not (sees (at starts_given) (tail_of u)) else ends_bare (qtype_end u)
 
-type_by_name : (u : List Lexeme) → Told (qtype_end u) (r.qtype u) (r.id_expression (r.deeper 0) u) → ends_bare (qtype_end u) ≡ true → TypeFront u
+pub type_by_name : (u : List Lexeme) → Told (qtype_end u) (r.qtype u) (r.id_expression (r.deeper 0) u) → ends_bare (qtype_end u) ≡ true → TypeFront u
 type_by_name u (is_type_name rest v e a o) h = type_at_name u rest v a o (not_true (sees (at starts_given) rest) (sym (ap ends_bare e) ∙ h))
 type_by_name u (is_none left e a p) h = absurd (let both : false ≡ true = sym (ap ends_bare e) ∙ h in cc)
 
-type_by : (u : List Lexeme) (b c : Bool) → sees (at begins_type) u ≡ b → sees (at is_word) u ≡ c → (b || by_word c u) ≡ true → TypeFront u
+pub type_by : (u : List Lexeme) (b c : Bool) → sees (at begins_type) u ≡ b → sees (at is_word) u ≡ c → (b || by_word c u) ≡ true → TypeFront u
 type_by u true c p q h = type_at_type u p
 type_by [] false true p q h = absurd (let both : false ≡ true = q in cc)
 type_by (t ∷ rest) false true p q h = type_at_word t rest q (not_true (sees (at starts_given) rest) h)
@@ -373,11 +380,11 @@ type_by u false false p q h = type_by_name u (told (r.deeper 0) u) h
 pub type_front : (u : List Lexeme) → type_ahead u ≡ true → TypeFront u
 type_front u h = type_by u (sees (at begins_type) u) (sees (at is_word) u) refl refl h
 
-expr_by_name : (u : List Lexeme) → sees (at begins_type) u ≡ false → sees (at is_word) u ≡ false → Told (qtype_end u) (r.qtype u) (r.id_expression (r.deeper 0) u) → ends_bare (qtype_end u) ≡ false → ExprFront u
+pub expr_by_name : (u : List Lexeme) → sees (at begins_type) u ≡ false → sees (at is_word) u ≡ false → Told (qtype_end u) (r.qtype u) (r.id_expression (r.deeper 0) u) → ends_bare (qtype_end u) ≡ false → ExprFront u
 expr_by_name u none no_word (is_type_name rest v e a o) h = front_at (expr_at_type u rest v a none (not_false (sees (at starts_given) rest) (sym (ap ends_bare e) ∙ h)))
 expr_by_name u none no_word (is_none left e a p) h = front_at (expr_at_other u left a p none no_word)
 
-expr_by : (u : List Lexeme) (b c : Bool) → sees (at begins_type) u ≡ b → sees (at is_word) u ≡ c → (b || by_word c u) ≡ false → ExprFront u
+pub expr_by : (u : List Lexeme) (b c : Bool) → sees (at begins_type) u ≡ b → sees (at is_word) u ≡ c → (b || by_word c u) ≡ false → ExprFront u
 expr_by u true c p q h = absurd (let both : true ≡ false = h in cc)
 expr_by [] false true p q h = absurd (let both : false ≡ true = q in cc)
 expr_by (t ∷ rest) false true p q h = front_at (expr_at_word t rest q (not_false (sees (at starts_given) rest) h))

@@ -12,11 +12,11 @@ use Rattle.cx_grammar.proofs.Sides.{taken_is}
 
 -- more tokens may go on
 module _ {T A : Type 0} (L : Family T A) (go go2 : A → T → Bool) (left : ℕ) (k : (v : A) (t : T) → go v t ≡ true → go2 v t ≡ true) where
-  goes : (v : A) (y : List T) → GoesOn go v y → GoesOn go2 v y
+  pub goes : (v : A) (y : List T) → GoesOn go v y → GoesOn go2 v y
   goes v [] h = h
   goes v (t ∷ y) h = k v t h
 
-  widened : (ts : List T) (o : Outcome T A) → Exact L go left ts o → Exact L go2 left ts o
+  pub widened : (ts : List T) (o : Outcome T A) → Exact L go left ts o → Exact L go2 left ts o
   widened ts (done v rest) e = record {
     used = e.used;
     spells = e.spells;
@@ -36,7 +36,7 @@ exactly_go {L = L} go go2 {left = left} {read = read} k g = record { at = λ ts.
 
 -- one part and then another
 module _ {T A B : Type 0} {G : Family T A} {H : Family T B} (go_g : A → T → Bool) (go_h : B → T → Bool) (go : A × B → T → Bool) {left : ℕ} {read : Reader T A} {s : Reader T B} (j : Joins G H go_g go_h go) (g : Exactly G go_g left read) (h : Exactly H go_h left s) where
-  joined_at : (ts : List T) (o : Outcome T A) → Exact G go_g left ts o → Exact (λ n. G n >> H n) go left ts (o >>= (λ a rest. made (λ b. (a, b)) (s rest)))
+  pub joined_at : (ts : List T) (o : Outcome T A) → Exact G go_g left ts o → Exact (λ n. G n >> H n) go left ts (o >>= (λ a rest. made (λ b. (a, b)) (s rest)))
   joined_at ts (done v rest) e = exact_both G H go_g go_h go j left ts rest v (s rest) e (h.at rest)
   joined_at ts (stop rule l) e = both_stop G H go_g go_h go j left ts rule l e
 
@@ -52,14 +52,14 @@ module _ {T A M : Type 0} (f : List T → M) (G : Family T A) (go : A → T → 
   abbrev go_measured : A × M → T → Bool
   go_measured w t = go w.0 t
 
-  goes_measured : (w : A × M) (y : List T) → GoesOn go w.0 y → GoesOn go_measured w y
+  pub goes_measured : (w : A × M) (y : List T) → GoesOn go w.0 y → GoesOn go_measured w y
   goes_measured w [] h = h
   goes_measured w (t ∷ y) h = h
 
-  pair_is : (w : A × M) (v : A) (x used : List T) → w.0 ≡ v → w.1 ≡ f x → x ≡ used → w ≡ (v, f used)
+  pub pair_is : (w : A × M) (v : A) (x used : List T) → w.0 ≡ v → w.1 ≡ f x → x ≡ used → w ≡ (v, f used)
   pair_is (a, m) v x used p q e = let s : m ≡ f used = q ∙ ap f e in cc
 
-  measured_read : (ts : List T) (o : Outcome T A) → Exact G go left ts o → Exact (λ n. measured f (G n)) go_measured left ts (o >>= (λ v rest. done (v, f (taken ts rest)) rest))
+  pub measured_read : (ts : List T) (o : Outcome T A) → Exact G go left ts o → Exact (λ n. measured f (G n)) go_measured left ts (o >>= (λ v rest. done (v, f (taken ts rest)) rest))
   measured_read ts (done v rest) g = let is = taken_is ts g.used rest g.core.cut in record {
     used = g.used;
     spells = λ n l. record { part = g.spells n l; measure = ap f is };
@@ -99,18 +99,18 @@ module _ {T A : Type 0} {G : Family T A} {p : T → Bool} (go_g : A → T → Bo
   abbrev taken_in : Family T (Option A)
   taken_in n = Some <$> present (G n)
 
-  none_first : (ts : List T) → sees p ts ≡ true → GoesOn go None ts
+  pub none_first : (ts : List T) → sees p ts ≡ true → GoesOn go None ts
   none_first [] seen = blank_seen p seen
   none_first (t ∷ ts) seen = none_goes t seen
 
-  none_covered : (ts : List T) → sees p ts ≡ true → (used : List T) → Covered left_out go (λ n. Unit {0}) ts used
+  pub none_covered : (ts : List T) → sees p ts ≡ true → (used : List T) → Covered left_out go (λ n. Unit {0}) ts used
   none_covered ts seen used = record {
     only = λ n i x y w e s. let none = s.part in let whole : ts ≡ y = e ∙ ap (λ l. l ++ y) none in
         ((used, sym (ap (λ l. l ++ used) none)), let P : Option A → Type 0 = λ z. GoesOn go z y in subst P (sym s.made) (subst (GoesOn go None) whole (none_first ts seen)));
     ends = λ n i x y e b. (used, sym (ap (λ l. l ++ used) b));
   }
 
-  maybe_at : (ts : List T) (b : Bool) → sees p ts ≡ b → Exact (λ n. maybe (G n)) go left ts (if b then made Some (read ts) else done None ts)
+  pub maybe_at : (ts : List T) (b : Bool) → sees p ts ≡ b → Exact (λ n. maybe (G n)) go left ts (if b then made Some (read ts) else done None ts)
   maybe_at ts true seen = exact_right left_out taken_in go left ts (made Some (read ts)) (none_covered ts seen) (exact_as Some (λ n. present (G n)) go_g go some_goes left ts (read ts) (g.at ts seen))
   maybe_at ts false unseen = exact_left left_out taken_in go left ts (done None ts)
       (elsewhere taken_in go ts (heads_elsewhere (heads_as Some (heads_present h)) ts unseen))

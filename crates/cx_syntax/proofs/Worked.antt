@@ -13,26 +13,26 @@ use Rattle.cx_syntax.specs.Linked.{links_of}
 use Rattle.cx_syntax.specs.Values.{no_mark}
 use Rattle.cx_syntax.specs.Readers as r
 
-abbrev lexeme : Class → Lexeme
+abbrev pub lexeme : Class → Lexeme
 lexeme c = record { class = c; kind = kind.Word; span = record { start = no_mark; end = no_mark }; text = [] }
 
 -- a list of these, and the token that ends it
-abbrev tokens : List Class → List Lexeme
+abbrev pub tokens : List Class → List Lexeme
 tokens cs = map lexeme (cs ++ k.End ∷ [])
 
 -- the rule of the fault, if there is one, and how many tokens are left
-abbrev seen : {A : Type 0} → Outcome Lexeme A → Option Rule × ℕ
+abbrev pub seen : {A : Type 0} → Outcome Lexeme A → Option Rule × ℕ
 seen (done v rest) = (None, length rest)
 seen (stop rule left) = (Some rule, left)
 
 -- so many levels, these classes, and what is seen
-abbrev Case : Type 0
+abbrev pub Case : Type 0
 Case = ℕ × List Class × (Option Rule × ℕ)
 
-abbrev read : Case → Option Rule × ℕ
+abbrev pub read : Case → Option Rule × ℕ
 read c = seen (r.expr (r.deeper c.0) (tokens c.1))
 
-abbrev cases : List Case
+abbrev pub cases : List Case
 cases =
     -- a name
     (0, k.Ident ∷ [], (None, 1)) ∷

@@ -1,5 +1,0 @@
-use Rattle.std.proofs.Common.{length}
-use Rattle.cx_objects.proofs.check.+first_broken.Given as goal
-
-abbrev pub decreases-first_broken : goal.decreases-first_broken
-decreases-first_broken l = length l.tests.now

@@ -1,5 +1,0 @@
-use Rattle.cx_objects.proofs.Making.{complete_known}
-use Rattle.cx_objects.proofs.make.cells_of.Goals as goal
-
-pub cells-requires : goal.cells-requires
-cells-requires c = complete_known c.args.types.now c.args.ty c.requires.complete

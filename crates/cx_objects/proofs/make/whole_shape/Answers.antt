@@ -1,5 +1,0 @@
-use Rattle.cx_objects.proofs.Making.{complete_told}
-use Rattle.cx_objects.proofs.make.whole_shape.Goals as goal
-
-pub type_shape-requires : goal.type_shape-requires
-type_shape-requires c = complete_told c.args.types.now c.args.ty c.requires

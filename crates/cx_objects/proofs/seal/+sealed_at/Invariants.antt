@@ -1,4 +1,0 @@
-use Rattle.cx_objects.proofs.seal.+sealed_at.Given as goal
-
-abbrev pub decreases-sealed_at : goal.decreases-sealed_at
-decreases-sealed_at l = l.rest

@@ -1,5 +1,0 @@
-use Rattle.cx_objects.proofs.Sealing.{field_row_is}
-use Rattle.cx_objects.proofs.seal.part_row.Goals as goal
-
-pub returns-in-Class-Field : goal.returns-in-Class-Field
-returns-in-Class-Field c = field_row_is c.args.types.now c.args.row c.row.result c.args.step c.in-Class-Field.class c.in-Class-Field.index c.field_at.result c.in-Class-Field.is-0 c.in-Class-Field.is-1 c.field_at.ensures c.row.ensures

@@ -1,0 +1,5 @@
+pub mod Meetings
+pub mod Seats
+pub mod Comparing
+pub mod Moving
+pub mod Enclosing

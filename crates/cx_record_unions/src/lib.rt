@@ -1,0 +1,8 @@
+//! Unions of the plain store: making a member the active one ([class.union]).
+#![tactic(auto)]
+
+mod change;
+mod renew;
+mod target;
+
+pub use change::activate;

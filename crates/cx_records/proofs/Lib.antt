@@ -1,0 +1,13 @@
+pub mod Passing
+pub mod Placed
+pub mod Checking
+pub mod Rules
+pub mod Reading
+pub mod Writing
+pub mod Wholes
+pub mod Deeper
+pub mod Elements
+pub mod Making
+pub mod Sealing
+pub mod Cutting
+pub mod Growing

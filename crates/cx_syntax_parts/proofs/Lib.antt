@@ -1,0 +1,10 @@
+pub mod Soup
+pub mod Words
+pub mod Declarations
+pub mod Factored
+pub mod Enums
+pub mod Endless
+pub mod Viable
+pub mod Carried
+pub mod Nested
+pub mod Worked

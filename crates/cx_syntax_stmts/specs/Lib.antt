@@ -1,0 +1,7 @@
+pub mod Sets
+pub mod Ahead
+pub mod Values
+pub mod Grammar
+pub mod Readers
+pub mod Goes
+pub mod Symbols

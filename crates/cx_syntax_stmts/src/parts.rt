@@ -1,0 +1,20 @@
+//! What a rule reads by the way, and no tree keeps.
+
+use cx_base::List;
+use cx_tree::{Expr, ForStart, Ident, Ptrs, Specs, StmtKind, Var};
+
+/// What stands in the parentheses of a `for`.
+#[derive(Drop)]
+pub enum ForHead {
+    /// What stands before the first `;`, the condition and the step ([stmt.for]).
+    Steps(ForStart, Option<Expr>, Option<Expr>),
+    /// The variable and the range ([stmt.ranged]).
+    Range(Specs, Ptrs, Ident, Expr),
+}
+
+/// What stands behind attributes in a block.
+#[derive(Drop)]
+pub enum BehindAttrs {
+    Stmt(StmtKind),
+    Vars(Specs, List<Var>),
+}

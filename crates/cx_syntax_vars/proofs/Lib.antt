@@ -1,0 +1,15 @@
+pub mod Tests
+pub mod Covering
+pub mod SpecsBefore
+pub mod Names
+pub mod Typedefs
+pub mod ManyThen
+pub mod Arguments
+pub mod Inits
+pub mod Vars
+pub mod Locals
+pub mod Params
+pub mod Endless
+pub mod OpenNames
+pub mod Viable
+pub mod Worked

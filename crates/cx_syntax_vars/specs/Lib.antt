@@ -1,0 +1,7 @@
+pub mod Sets
+pub mod Values
+pub mod Ahead
+pub mod Grammar
+pub mod Readers
+pub mod Goes
+pub mod Symbols
