@@ -1,0 +1,25 @@
+-- What specifiers and parameters begin with.
+use Rattle.std.proofs.Common.{◌≡◌, true, false, ◌||◌, refl, sym, ◌∙◌, ap}
+use Rattle.cx_syntax.specs.declared.class.Class.{Class}
+use Rattle.cx_syntax.specs.declared.class.Class.TheVariants as k
+use Rattle.cx_syntax.specs.Classes.{same_class}
+use Rattle.cx_syntax.specs.Readers.{just}
+use Rattle.cx_syntax.specs.Sets.{is_modifier, starts_specs, starts_typed}
+use Rattle.cx_syntax_vars.specs.Sets.{starts_param}
+
+-- specifiers begin with a modifier or with what a type begins with
+pub begins_specs : (c : Class) → (is_modifier c || starts_typed c) ≡ starts_specs c
+begins_specs k.Void = refl
+begins_specs _ = refl
+
+-- parameters begin with `[` or with specifiers
+begins_param : (c : Class) → (just k.OpenBracket c || starts_specs c) ≡ starts_param c
+unfolding same_class
+begins_param k.OpenBracket = refl
+begins_param _ = refl
+
+pub param_open : (c : Class) → just k.OpenBracket c ≡ true → starts_param c ≡ true
+param_open c e = sym (begins_param c) ∙ ap (λ b. b || starts_specs c) e
+
+pub param_specs : (c : Class) → just k.OpenBracket c ≡ false → starts_param c ≡ starts_specs c
+param_specs c e = sym (begins_param c) ∙ ap (λ b. b || starts_specs c) e

@@ -1,0 +1,3 @@
+pub mod Enumerators
+pub mod Greatest
+pub mod Soups

@@ -1,0 +1,5 @@
+use Rattle.cx_parser_stmts.proofs.Short.{short_switch_item}
+use Rattle.cx_parser_stmts.proofs.statements.Statements.switch_body.Goals as goal
+
+pub read_many-requires-clause-shortens : goal.read_many-requires-clause-shortens
+read_many-requires-clause-shortens g c = short_switch_item c.args.self.now.left c.requires.room

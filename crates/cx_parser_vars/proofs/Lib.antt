@@ -1,0 +1,4 @@
+pub mod Depth
+pub mod Greatest
+pub mod Parens
+pub mod Short

@@ -1,0 +1,29 @@
+-- What the functions read by the way.
+use Rattle.std.specs.Prelude.{ℕ, List, length, Option, Some, None, if◌then◌else◌}
+use Rattle.cx_tree.specs.declared.names.Ident.{Ident}
+use Rattle.cx_syntax.specs.declared.class.Class.TheVariants as k
+use Rattle.cx_syntax.specs.declared.lexeme.Lexeme.{Lexeme}
+use Rattle.cx_grammar.specs.Reading.{Reader, maybe_if, sees}
+use Rattle.cx_grammar.specs.Reads.{tail_of}
+use Rattle.cx_grammar.specs.Sets.{of}
+use Rattle.cx_syntax.specs.Classes.{class_at, is}
+use Rattle.cx_syntax.specs.Sets.{is_id, starts_assign}
+use Rattle.cx_syntax.specs.Readers.{id}
+use Rattle.cx_syntax_vars.specs.Ahead.{type_made_at}
+
+-- a name that may be left out
+abbrev pub maybe_id : Reader Lexeme (Option Ident)
+maybe_id = maybe_if (of class_at is_id) id
+
+-- at which token such a list is refused, where none of a made type was found
+abbrev pub no_args_by : Option ℕ → List Lexeme → Option ℕ
+no_args_by (Some left) ts = Some left
+no_args_by None ts = if sees (of class_at starts_assign) ts then None else Some (length ts)
+
+-- how many tokens are left at the first of a list of arguments that is refused: one of a type that something is made of, or one that begins no argument
+abbrev pub no_args_at : List Lexeme → Option ℕ
+no_args_at ts = no_args_by (type_made_at ts) ts
+
+-- the same behind `(`
+abbrev pub refused_at : List Lexeme → Option ℕ
+refused_at ts = if sees (is k.OpenParen) ts then no_args_at (tail_of ts) else None
