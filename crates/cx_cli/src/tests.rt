@@ -63,12 +63,22 @@ fn constants_and_faults(rt: HostRuntime) -> Result<(), Fail> {
             (
                 "a parenthesis",
                 "constexpr int a = (1);\n",
-                "1:19-1:20 [profile] left-out\n",
+                "1:15 constexpr a = 1\naccepted 1\n",
             ),
             (
                 "the end in a chain",
                 "constexpr int a = 6 *",
-                "1:22-1:22 [profile] left-out\n",
+                "1:22-1:22 [gram] syntax\n",
+            ),
+            (
+                "the end behind `=`",
+                "constexpr int a =",
+                "1:18-1:18 [gram] syntax\n",
+            ),
+            (
+                "a parameter list that a block cuts off",
+                "int f(int x { return x; }",
+                "1:13-1:14 [gram] syntax\n",
             ),
             (
                 "a product out of range",
@@ -81,14 +91,14 @@ fn constants_and_faults(rt: HostRuntime) -> Result<(), Fail> {
                 "1:15 constexpr a = 8\naccepted 1\n",
             ),
             (
-                "a lexical fault behind what is left out",
-                "constexpr int a = (08);\n",
-                "1:20-1:22 [lex.icon] bad-number\n",
+                "a lexical fault behind a form that is left out",
+                "constexpr long a = (08);\n",
+                "1:21-1:23 [lex.icon] bad-number\n",
             ),
             (
                 "a keyword as a name",
                 "constexpr int xor = 1;\n",
-                "1:15-1:18 [profile] left-out\n",
+                "1:15-1:18 [gram] syntax\n",
             ),
         ],
     )?;
@@ -129,17 +139,17 @@ fn names_sums_and_differences(rt: HostRuntime) -> Result<(), Fail> {
             (
                 "a name before its declaration",
                 "constexpr int a = b;\nconstexpr int b = 1;\n",
-                "1:19-1:20 [profile] left-out\n",
+                "1:19-1:20 [basic.lookup] unknown-name\n",
             ),
             (
                 "a name in its own chain",
                 "constexpr int a = a;\n",
-                "1:19-1:20 [profile] left-out\n",
+                "1:19-1:20 [basic.lookup] unknown-name\n",
             ),
             (
                 "a name declared twice",
-                "constexpr int a = 1;\nconstexpr int a = 2;\n",
-                "2:15-2:16 [profile] left-out\n",
+                "constexpr int a = 1;\nconstexpr int a = b;\n",
+                "2:15-2:16 [basic.scope] redeclared\n",
             ),
         ],
     )?;

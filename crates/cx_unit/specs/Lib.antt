@@ -1,6 +1,5 @@
+pub mod Decls
+pub mod Exprs
 pub mod Names
-pub mod Phases
 pub mod Report
-pub mod Units
-pub mod Values
 pub mod Verdict

@@ -8,19 +8,43 @@ use Rattle.cx_tokens.specs.declared.LexAnswer.{LexAnswer}
 use Rattle.cx_tokens.specs.declared.LexAnswer.TheVariants as lexed
 use Rattle.cx_tokens.specs.Marks.{mark_of}
 use Rattle.cx_tokens.specs.Tokens.{LexFault, Lexes}
+use Rattle.cx_tree.specs.declared.decls.Unit.{Unit as Tree}
+use Rattle.cx_unit_parser.specs.declared.parsing.ParseAnswer.{ParseAnswer}
+use Rattle.cx_unit_parser.specs.declared.parsing.ParseAnswer.TheVariants as parsed
+use Rattle.cx_unit_parser.specs.Parsing.{IsFault, IsTree}
 use Rattle.cx_unit.specs.declared.verdict.Verdict.{Verdict}
 use Rattle.cx_unit.specs.declared.verdict.Verdict.TheVariants.{Refused}
-use Rattle.cx_unit.specs.Values.{verdict_on}
+use Rattle.cx_unit.specs.Decls.{verdict_of}
 
 -- too many bytes, told at the source's first place
 abbrev pub source_too_long : Verdict
 source_too_long = Refused (record { span = record { start = mark_of []; end = mark_of [] }; rule = rule.SourceTooLong; frames = [] })
 
+-- ---- from the tokens on
+
+-- the tokens spell a unit that has this verdict
+pub record IsVerdictOfTree (tokens : List Token) (verdict : Verdict) : Type 0 where
+  pub tree : Tree
+  pub spelled : IsTree tokens tree
+  pub judged : verdict ≡ verdict_of tree
+
+-- the verdict tells the first token that no unit goes on with
+pub record IsVerdictOfSyntax (tokens : List Token) (verdict : Verdict) : Type 0 where
+  pub fault : Diag
+  pub found : IsFault tokens fault
+  pub judged : verdict ≡ Refused fault
+
+-- the tokens have this verdict: that of their tree, or their first syntax fault
+abbrev pub IsVerdictFrom : List Token → Verdict → Type 0
+IsVerdictFrom tokens verdict = IsVerdictOfSyntax tokens verdict ⊎ IsVerdictOfTree tokens verdict
+
+-- ---- from the bytes on
+
 -- some tokens of the bytes have this verdict
 pub record IsVerdictOfTokens (bytes : List ℕ) (verdict : Verdict) : Type 0 where
   pub tokens : List Token
   pub lexed : Lexes bytes tokens
-  pub judged : verdict ≡ verdict_on tokens
+  pub judged : IsVerdictFrom tokens verdict
 
 -- the bytes have this fault first
 pub record IsVerdictOfFault (bytes : List ℕ) (verdict : Verdict) : Type 0 where
@@ -40,3 +64,8 @@ IsVerdict bytes verdict = IsVerdictIf (nat_lt longest_source (length bytes)) byt
 abbrev pub RefusedBy : LexAnswer → Verdict → Type 0
 RefusedBy (lexed.Fault fault) verdict = verdict ≡ Refused fault
 RefusedBy lexed.Memory verdict = ⊥
+
+-- the verdict is that of a syntax fault
+abbrev pub StoppedBy : ParseAnswer → Verdict → Type 0
+StoppedBy (parsed.Fault fault) verdict = verdict ≡ Refused fault
+StoppedBy parsed.Memory verdict = ⊥

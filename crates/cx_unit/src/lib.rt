@@ -1,15 +1,14 @@
 //! A unit's verdict, and its report.
 #![tactic(auto)]
 
-mod chain;
-mod kinds;
+mod decls;
+mod exprs;
+mod found;
 mod names;
-mod phase;
-mod reading;
+mod operators;
 mod reports;
 mod units;
 mod verdict;
-mod walk;
 
 pub use reports::report;
 pub use units::{run_unit, too_long, verdict_on};

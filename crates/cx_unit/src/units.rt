@@ -1,26 +1,35 @@
 //! The verdict on a unit.
 ghost use Rattle.std.specs.Prelude.{◌≡◌, ◌≤◌, length, IfOk};
 ghost use Rattle.cx_base.specs.Only.{IsOnly};
-ghost use Rattle.cx_unit.specs.Values as values;
-ghost use Rattle.cx_unit.specs.Verdict.{IsVerdict, RefusedBy, source_too_long};
+ghost use Rattle.cx_unit_parser.specs.Parsing.{EndsInEnd};
+ghost use Rattle.cx_unit.specs.Verdict.{IsVerdict, IsVerdictFrom, RefusedBy, StoppedBy, source_too_long};
 
-use crate::reading::left_out;
+use crate::decls::{refused, verdict_of};
+use crate::found::Broken;
 use crate::verdict::Verdict;
-use crate::walk::{refused, walked};
 use cx_base::{Limits, List, Mark, Memory, Rule, Span};
 use cx_tokens::{LexAnswer, Token, lex};
+use cx_unit_parser::{ParseAnswer, parse_unit};
 use std::alloc::Global;
 
-/// The verdict of the tokens of a unit: its first token that no unit goes on with, else its first operation that
-/// leaves the range of int, else a line for each constant.
-#[tactic(auto, unfolding(crate::specs::Values::verdict_on))]
-pub fn run_unit(alloc: Global, tokens: &List<Token>, _limits: Limits) -> Result<Verdict, Memory>
-    ensures { IfOk result (λ verdict. verdict ≡ values.verdict_on tokens.now) }
+fn stopped_by(answer: ParseAnswer) -> Result<Verdict, Memory>
+    ensures { IfOk result (StoppedBy answer) }
 {
-    let tokens = tokens.as_slice();
-    match left_out(alloc, tokens)? {
-        Some(span) => Ok(refused(alloc, Rule::LeftOut, span)),
-        None => walked(alloc, tokens),
+    match answer {
+        ParseAnswer::Fault(fault) => Ok(Verdict::Refused(fault)),
+        ParseAnswer::Memory => Err(Memory),
+    }
+}
+
+/// The one verdict of the tokens of a unit, the last of which is that of the source's end: its first token that no unit
+/// goes on with, else the first rule that a declaration breaks, else a line for each constant.
+pub fn run_unit(alloc: Global, tokens: &List<Token>, _limits: Limits) -> Result<Verdict, Memory>
+    requires { EndsInEnd tokens.now }
+    ensures { IfOk result (IsOnly (IsVerdictFrom tokens.now)) }
+{
+    match parse_unit(alloc, tokens) {
+        Ok(unit) => verdict_of(alloc, &unit),
+        Err(answer) => stopped_by(answer),
     }
 }
 
@@ -37,7 +46,13 @@ pub fn too_long(alloc: Global) -> Verdict
         start: mark,
         end: mark,
     };
-    refused(alloc, Rule::SourceTooLong, span)
+    refused(
+        alloc,
+        Broken {
+            rule: Rule::SourceTooLong,
+            span,
+        },
+    )
 }
 
 fn refused_by(answer: LexAnswer) -> Result<Verdict, Memory>

@@ -45,11 +45,11 @@ const TOKENS: Cases<9> = Cases {
         row!("# 7 \"x.cpp\"\nconstexpr int a = 010;\n" => "2:15 constexpr a = 8\naccepted 1\n"),
         row!("constexpr int a = 0b101 * 3;\n" => "1:15 constexpr a = 15\naccepted 1\n"),
         row!("constexpr int a = 1; // x\n/* y\n */ constexpr int b = a;\n" => "1:15 constexpr a = 1\n3:19 constexpr b = 1\naccepted 2\n"),
-        row!("constexpr int a = 1u;\n" => "1:19-1:21 [profile] left-out\n"),
-        row!("constexpr int a = 2147483648;\n" => "1:19-1:29 [profile] left-out\n"),
-        row!("constexpr int a = 1 >>= 2;\n" => "1:21-1:24 [profile] left-out\n"),
+        row!("constexpr int a = 1u;\n" => "1:19-1:21 [profile] left-out-form\n"),
+        row!("constexpr int a = 2147483648;\n" => "1:19-1:29 [profile] left-out-form\n"),
+        row!("constexpr int a = 1 >>= 2;\n" => "1:19-1:26 [profile] left-out-form\n"),
         row!("constexpr int a = 08 * @;\n" => "1:19-1:21 [lex.icon] bad-number\n"),
-        row!("constexpr int not = 1;\n" => "1:15-1:18 [profile] left-out\n"),
+        row!("constexpr int not = 1;\n" => "1:15-1:18 [gram] syntax\n"),
     ],
 };
 

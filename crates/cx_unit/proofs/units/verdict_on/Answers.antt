@@ -1,5 +1,8 @@
-use Rattle.cx_unit.proofs.Verdicts.{of_answer, of_tokens}
+use Rattle.cx_unit.proofs.Verdicts.{lexed_ends, of_answer, of_tokens}
 use Rattle.cx_unit.proofs.units.verdict_on.Goals as goal
+
+pub run_unit-requires : goal.run_unit-requires
+run_unit-requires c = lexed_ends c.args.bytes.now c.in-Ok.tokens c.in-Ok.ensures.tokens
 
 pub returns-in-Ok : goal.returns-in-Ok
 returns-in-Ok c = of_tokens c.args.bytes.now c.in-Ok.tokens c.run_unit.result c.requires c.in-Ok.ensures.tokens c.run_unit.ensures
