@@ -1,14 +1,39 @@
 //! The first token that no expression goes on with, worked out by hand from the grammar.
 
 use crate::LEVELS;
-use crate::tests::parsed::{Start, TYPES, parsed};
-use crate::tests::printer::Places;
-use std::alloc::AllocGlobal;
+use crate::tests::parsed::{Start, TYPES, declared, parsed};
+use cx_print_trees::Places;
+use std::alloc::{AllocGlobal, Global};
 use std::process::Abort;
 use std::test::Fail;
 
-// Each fault is one of `syntax`.
+// A line that is one further down.
+fn line_below(alloc: Global, mark: &str) -> Result<String, Fail> {
+    let (line, col) = mark.split_once(':').ok_or("no column")?;
+    let line: u32 = line.parse().map_err(|_| "no line")?;
+    let below = line.checked_add(1).ok_or("too far")?;
+    Ok(format!(in alloc; "{below}:{col}")?)
+}
+
+// Each fault is one of `syntax`, and the same where the source stands one line further down in a declaration, unless the source by itself
+// ends too early.
 fn all_refused(rt: &(impl Abort + AllocGlobal), rows: &[(&str, &str)]) -> Result<(), Fail> {
+    all_refused_alone(rt, rows)?;
+    let alloc = rt.alloc();
+    for (source, span) in rows {
+        let (from, to) = span.split_once('-').ok_or("no end")?;
+        if from != to {
+            let got = declared(alloc, TYPES, source)?;
+            let (from, to) = (line_below(alloc, from)?, line_below(alloc, to)?);
+            let want = format!(in alloc; "{from}-{to} syntax")?;
+            assert_eq!(rt; got.as_str(), want.as_str(), "{source}");
+        }
+    }
+    Ok(())
+}
+
+// Each fault is one of `syntax`.
+fn all_refused_alone(rt: &(impl Abort + AllocGlobal), rows: &[(&str, &str)]) -> Result<(), Fail> {
     let alloc = rt.alloc();
     for (source, span) in rows {
         let got = parsed(alloc, TYPES, source, Start::Expr, LEVELS, Places::Nowhere)?;
@@ -56,6 +81,7 @@ fn what_begins_no_expression(rt: HostRuntime) -> Result<(), Fail> {
 
 #[test]
 fn what_follows_no_operand(rt: HostRuntime) -> Result<(), Fail> {
+    all_refused_alone(&rt, &[("a]", "1:2-1:3")])?;
     all_refused(
         &rt,
         &[
@@ -69,7 +95,6 @@ fn what_follows_no_operand(rt: HostRuntime) -> Result<(), Fail> {
             ("a new T", "1:3-1:6"),
             ("a const", "1:3-1:8"),
             ("a)", "1:2-1:3"),
-            ("a]", "1:2-1:3"),
             ("a;", "1:2-1:3"),
             ("a : b", "1:3-1:4"),
             ("a--b", "1:4-1:5"),

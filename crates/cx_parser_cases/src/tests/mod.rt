@@ -4,7 +4,5 @@ mod classify;
 mod faults;
 mod nesting;
 mod parsed;
-mod printer;
 mod spans;
 mod trees;
-mod words;

@@ -2,7 +2,7 @@
 
 use crate::LEVELS;
 use crate::tests::parsed::{Start, TYPES, is_parsed, parsed};
-use crate::tests::printer::Places;
+use cx_print_trees::Places;
 use std::alloc::{AllocGlobal, Global};
 use std::process::Abort;
 use std::test::Fail;

@@ -1,10 +1,11 @@
 //! What the parser answers to a source, as text.
 
 use crate::tests::classify::classified;
-use crate::tests::printer::{Places, braces_text, span_text, tree_text};
 use crate::{assign, braces, cond, expr};
 use cx_base::{List, Rule};
 use cx_grammar::{Cursor, ParseStop};
+use cx_parser_decls::parse;
+use cx_print_trees::{Places, braces_text, span_text, tree_text, unit_text};
 use cx_syntax::{Class, Lexeme};
 use std::alloc::Global;
 use std::test::Fail;
@@ -78,6 +79,16 @@ pub fn parsed(
     match read_text(alloc, &mut tokens, start, left, places)? {
         Ok(text) if tokens.sees(&Class::End) => Ok(text),
         Ok(_) => fault_text(alloc, &all, tokens.refuse()),
+        Err(stop) => fault_text(alloc, &all, stop),
+    }
+}
+
+/// The tree of a unit whose one variable has on its second line the source as an index in its initializer, or its fault.
+pub fn declared(alloc: Global, types: &str, source: &str) -> Result<String, Fail> {
+    let unit = format!(in alloc; "int a = b[\n{source}\n];")?;
+    let all = classified(alloc, types, unit.as_str())?;
+    match parse(alloc, all.as_slice()) {
+        Ok(unit) => Ok(unit_text(alloc, &unit, Places::Nowhere)?),
         Err(stop) => fault_text(alloc, &all, stop),
     }
 }

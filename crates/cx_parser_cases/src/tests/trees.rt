@@ -1,17 +1,21 @@
 //! Trees of expressions, worked out by hand from the grammar.
 
 use crate::LEVELS;
-use crate::tests::parsed::{Start, TYPES, parsed};
-use crate::tests::printer::Places;
+use crate::tests::parsed::{Start, TYPES, declared, parsed};
+use cx_print_trees::Places;
 use std::alloc::AllocGlobal;
 use std::process::Abort;
 use std::test::Fail;
 
+// Each source has the tree, by itself and in a declaration.
 fn all_parsed(rt: &(impl Abort + AllocGlobal), rows: &[(&str, &str)]) -> Result<(), Fail> {
     let alloc = rt.alloc();
     for (source, want) in rows {
         let got = parsed(alloc, TYPES, source, Start::Expr, LEVELS, Places::Nowhere)?;
         assert_eq!(rt; got.as_str(), *want, "{source}");
+        let got = declared(alloc, TYPES, source)?;
+        let want = format!(in alloc; "(vars <int> a = (index b {want}))")?;
+        assert_eq!(rt; got.as_str(), want.as_str(), "{source}");
     }
     Ok(())
 }

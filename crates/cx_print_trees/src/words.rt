@@ -2,8 +2,8 @@
 
 use cx_base::IntType;
 use cx_tree::{
-    AssignOp, BinaryOp, CastWord, ClassKey, Elaboration, ModifierWord, MoreKind, Overloaded,
-    PrefixOp, Reach, TypeWord,
+    Access, AssignOp, BinaryOp, CastWord, ClassKey, Elaboration, ModifierWord, MoreKind,
+    Overloaded, PrefixOp, Reach, Tail, TypeWord, Virtual,
 };
 
 /// The suffix of a literal of the type.
@@ -119,6 +119,15 @@ pub fn modifier(word: ModifierWord) -> &'static str {
     }
 }
 
+/// A class key.
+pub fn class_key(key: ClassKey) -> &'static str {
+    match key {
+        ClassKey::Struct => "struct",
+        ClassKey::Class => "class",
+        ClassKey::Union => "union",
+    }
+}
+
 /// The word before a type's name, and a space.
 pub fn elaboration(word: Elaboration) -> &'static str {
     match word {
@@ -161,5 +170,32 @@ pub fn part(kind: &MoreKind) -> &'static str {
         MoreKind::Decrement => "post--",
         MoreKind::Member(reach, _) => member(*reach),
         MoreKind::Destroy(reach, _) => destroyed(*reach),
+    }
+}
+
+/// [class.access]
+pub fn access(access: Access) -> &'static str {
+    match access {
+        Access::Public => "public",
+        Access::Protected => "protected",
+        Access::Private => "private",
+    }
+}
+
+/// A word behind a member function, behind a space.
+pub fn virtual_word(word: Virtual) -> &'static str {
+    match word {
+        Virtual::Override => " override",
+        Virtual::Final => " final",
+    }
+}
+
+/// The end of a declaration without a block, behind a space.
+pub fn tail(tail: Tail) -> &'static str {
+    match tail {
+        Tail::Plain => " ;",
+        Tail::Default => " = default",
+        Tail::Delete => " = delete",
+        Tail::Pure => " = 0",
     }
 }

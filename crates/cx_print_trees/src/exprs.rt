@@ -1,211 +1,37 @@
-//! Trees of expressions as compact text.
+//! Expressions, and what stands in them, as text.
 
-use crate::tests::words;
-use cx_base::{List, Span, Text};
+use crate::printer::{Places, Printer};
+use crate::words;
+use cx_base::{List, Memory, Text};
 use cx_ints::Int;
 use cx_tree::{
-    Args, Bound, Braces, Clause, Expr, ExprKind, FunctionName, Given, Ident, Last, Modifier, More,
-    MoreKind, New, Operation, Ptrs, Specs, SpecsType, Star, TypeId, TypeName, WordOrModifier,
+    Args, Bound, Braces, Clause, Expr, ExprKind, Given, More, MoreKind, New, Operation, TypeId,
 };
-use std::alloc::Global;
-use std::test::Fail;
 
-/// Which parts of the source stand in the text, each behind `@`.
-#[derive(Clone, Copy, PartialEq, Eq)]
-pub enum Places {
-    /// None.
-    Nowhere,
-    /// Those of expressions, of parts behind a head, of lists, types, bounds and stars.
-    Parts,
-    /// Those of names, specifiers and their words.
-    Names,
-}
-
-/// A part of the source as text.
-pub fn span_text(alloc: Global, span: Span) -> Result<String, Fail> {
-    let (from, to) = (span.start, span.end);
-    let (a, b, c, d) = (from.line, from.col, to.line, to.col);
-    Ok(format!(in alloc; "{a}:{b}-{c}:{d}")?)
-}
-
-/// A tree as text.
-pub fn tree_text(alloc: Global, tree: &Expr, places: Places) -> Result<String, Fail> {
-    let mut printer = Printer {
-        alloc,
-        places,
-        out: String::new(alloc),
-    };
-    printer.expr(tree)?;
-    Ok(printer.out)
-}
-
-/// Clauses in braces as text.
-pub fn braces_text(alloc: Global, braces: &Braces, places: Places) -> Result<String, Fail> {
-    let mut printer = Printer {
-        alloc,
-        places,
-        out: String::new(alloc),
-    };
-    printer.braces(braces)?;
-    Ok(printer.out)
-}
-
-#[derive(Drop)]
-struct Printer {
-    alloc: Global,
-    places: Places,
-    out: String,
-}
-
-// Names and specifiers.
+// Literals, and what stands before the first operand, last operation first.
 impl Printer {
-    fn put(&mut self, text: &str) -> Result<(), Fail> {
-        self.out.push_str(text)?;
-        Ok(())
-    }
-
-    fn bytes(&mut self, text: &Text) -> Result<(), Fail> {
-        for byte in text.as_slice() {
-            self.out.push(char::from(*byte))?;
-        }
-        Ok(())
-    }
-
-    fn place(&mut self, kind: Places, span: Span) -> Result<(), Fail> {
-        if self.places == kind {
-            let text = span_text(self.alloc, span)?;
-            self.put("@")?;
-            self.put(text.as_str())?;
-        }
-        Ok(())
-    }
-
-    fn ident(&mut self, ident: &Ident) -> Result<(), Fail> {
-        self.bytes(&ident.text)?;
-        self.place(Places::Names, ident.span)
-    }
-
-    fn scopes(&mut self, scopes: &List<Ident>) -> Result<(), Fail> {
-        for scope in scopes.as_slice() {
-            self.ident(scope)?;
-            self.put("::")?;
-        }
-        Ok(())
-    }
-
-    fn last(&mut self, last: &Last) -> Result<(), Fail> {
-        match last {
-            Last::Ident(ident) => self.ident(ident),
-            Last::Operator(operator) => {
-                self.put("operator")?;
-                self.put(words::overloaded(*operator))
-            }
-        }
-    }
-
-    fn function_name(&mut self, name: &FunctionName) -> Result<(), Fail> {
-        self.scopes(&name.scopes)?;
-        self.last(&name.last)?;
-        self.place(Places::Names, name.span)
-    }
-
-    fn type_name(&mut self, name: &TypeName) -> Result<(), Fail> {
-        if name.global {
-            self.put("::")?;
-        }
-        self.scopes(&name.scopes)?;
-        self.ident(&name.name)?;
-        self.place(Places::Names, name.span)
-    }
-
-    fn modifier(&mut self, modifier: &Modifier) -> Result<(), Fail> {
-        self.put(words::modifier(modifier.word))?;
-        self.place(Places::Names, modifier.span)
-    }
-
-    fn word(&mut self, word: &WordOrModifier) -> Result<(), Fail> {
-        match word {
-            WordOrModifier::Word(word) => self.put(words::type_word(*word)),
-            WordOrModifier::Modifier(modifier) => self.modifier(modifier),
-        }
-    }
-
-    fn specs_type(&mut self, ty: &SpecsType) -> Result<(), Fail> {
-        match ty {
-            SpecsType::Missing => self.put("none"),
-            SpecsType::Words(first, others) => {
-                self.put(words::type_word(*first))?;
-                for word in others.as_slice() {
-                    self.put(" ")?;
-                    self.word(word)?;
-                }
-                Ok(())
-            }
-            SpecsType::Named(named, others) => {
-                if let Some(word) = named.word {
-                    self.put(words::elaboration(word))?;
-                }
-                self.type_name(&named.name)?;
-                for modifier in others.as_slice() {
-                    self.put(" ")?;
-                    self.modifier(modifier)?;
-                }
-                Ok(())
-            }
-        }
-    }
-
-    fn specs(&mut self, specs: &Specs) -> Result<(), Fail> {
-        for modifier in specs.modifiers.as_slice() {
-            self.modifier(modifier)?;
-            self.put(" ")?;
-        }
-        self.specs_type(&specs.ty)?;
-        self.place(Places::Names, specs.span)
-    }
-
-    fn stars(&mut self, stars: &List<Star>) -> Result<(), Fail> {
-        for star in stars.as_slice() {
-            self.put(if star.is_const { " *const" } else { " *" })?;
-            self.place(Places::Parts, star.span)?;
-        }
-        Ok(())
-    }
-
-    fn ptrs(&mut self, ptrs: &Ptrs) -> Result<(), Fail> {
-        self.stars(&ptrs.stars)?;
-        if ptrs.is_reference {
-            self.put(" &")?;
-        }
-        Ok(())
-    }
-
-    fn number(&mut self, number: Int) -> Result<(), Fail> {
-        let value = number.value;
-        let text = format!(in self.alloc; "{value}")?;
-        self.put(text.as_str())?;
+    fn number(&mut self, number: Int) -> Result<(), Memory> {
+        self.decimal(number.value)?;
         self.put(words::suffix(number.ty))
     }
 
-    fn character(&mut self, value: i8) -> Result<(), Fail> {
-        let text = format!(in self.alloc; "(char {value})")?;
-        self.put(text.as_str())
+    fn character(&mut self, value: i8) -> Result<(), Memory> {
+        self.put("(char ")?;
+        self.decimal(value as i128)?;
+        self.put(")")
     }
 
-    fn pieces(&mut self, pieces: &List<Text>) -> Result<(), Fail> {
+    /// A string in pieces.
+    pub(crate) fn pieces(&mut self, pieces: &List<Text>) -> Result<(), Memory> {
         self.put("(str")?;
         for piece in pieces.as_slice() {
-            self.put(" '")?;
-            self.bytes(piece)?;
-            self.put("'")?;
+            self.put(" ")?;
+            self.quoted(piece)?;
         }
         self.put(")")
     }
-}
 
-// What stands before the first operand, last operation first.
-impl Printer {
-    fn operators(&mut self, operations: &[Operation]) -> Result<(), Fail> {
+    fn operators(&mut self, operations: &[Operation]) -> Result<(), Memory> {
         for operation in operations.iter().rev() {
             self.put("(")?;
             self.put(words::binary(operation.operator))?;
@@ -214,7 +40,7 @@ impl Printer {
         Ok(())
     }
 
-    fn part_words(&mut self, parts: &[More]) -> Result<(), Fail> {
+    fn part_words(&mut self, parts: &[More]) -> Result<(), Memory> {
         for part in parts.iter().rev() {
             self.put("(")?;
             self.put(words::part(&part.kind))?;
@@ -227,13 +53,13 @@ impl Printer {
 // Expressions, and what holds expressions.
 impl Printer {
     #[cycle(printer)]
-    fn expr(&mut self, expr: &Expr) -> Result<(), Fail> {
+    pub(crate) fn expr(&mut self, expr: &Expr) -> Result<(), Memory> {
         self.kind(&expr.kind)?;
         self.place(Places::Parts, expr.extent)
     }
 
     #[cycle(printer)]
-    fn kind(&mut self, kind: &ExprKind) -> Result<(), Fail> {
+    fn kind(&mut self, kind: &ExprKind) -> Result<(), Memory> {
         match kind {
             ExprKind::Number(number) => self.number(*number),
             ExprKind::Char(value) => self.character(*value),
@@ -258,7 +84,7 @@ impl Printer {
 
     // What stands in the parentheses of the text.
     #[cycle(printer)]
-    fn operation(&mut self, kind: &ExprKind) -> Result<(), Fail> {
+    fn operation(&mut self, kind: &ExprKind) -> Result<(), Memory> {
         match kind {
             ExprKind::Paren(inner) => self.one("paren", inner.get()),
             ExprKind::SizeofExpr(operand) => self.one("sizeof", operand.get()),
@@ -288,7 +114,7 @@ impl Printer {
 
     // An expression in which a type stands.
     #[cycle(printer)]
-    fn of_type(&mut self, kind: &ExprKind) -> Result<(), Fail> {
+    fn of_type(&mut self, kind: &ExprKind) -> Result<(), Memory> {
         match kind {
             ExprKind::OfWord(word, given) => {
                 self.put("make ")?;
@@ -324,19 +150,19 @@ impl Printer {
     }
 
     #[cycle(printer)]
-    fn one(&mut self, word: &str, operand: &Expr) -> Result<(), Fail> {
+    fn one(&mut self, word: &str, operand: &Expr) -> Result<(), Memory> {
         self.put(word)?;
         self.next(operand)
     }
 
     #[cycle(printer)]
-    fn next(&mut self, operand: &Expr) -> Result<(), Fail> {
+    pub(crate) fn next(&mut self, operand: &Expr) -> Result<(), Memory> {
         self.put(" ")?;
         self.expr(operand)
     }
 
     #[cycle(printer)]
-    fn all(&mut self, operands: &[Expr]) -> Result<(), Fail> {
+    fn all(&mut self, operands: &[Expr]) -> Result<(), Memory> {
         for operand in operands {
             self.next(operand)?;
         }
@@ -345,7 +171,7 @@ impl Printer {
 
     // Each operation has all before it as its left operand, and each part behind a head has all before it.
     #[cycle(printer)]
-    fn applied(&mut self, kind: &ExprKind) -> Result<(), Fail> {
+    fn applied(&mut self, kind: &ExprKind) -> Result<(), Memory> {
         match kind {
             ExprKind::Chain(first, others) => {
                 self.operators(others.as_slice())?;
@@ -362,7 +188,7 @@ impl Printer {
     }
 
     #[cycle(printer)]
-    fn operands(&mut self, operations: &[Operation]) -> Result<(), Fail> {
+    fn operands(&mut self, operations: &[Operation]) -> Result<(), Memory> {
         for operation in operations {
             self.operand(operation)?;
         }
@@ -370,13 +196,13 @@ impl Printer {
     }
 
     #[cycle(printer)]
-    fn operand(&mut self, operation: &Operation) -> Result<(), Fail> {
+    fn operand(&mut self, operation: &Operation) -> Result<(), Memory> {
         self.next(&operation.operand)?;
         self.put(")")
     }
 
     #[cycle(printer)]
-    fn parts(&mut self, parts: &[More]) -> Result<(), Fail> {
+    fn parts(&mut self, parts: &[More]) -> Result<(), Memory> {
         for part in parts {
             self.whole_part(part)?;
         }
@@ -384,14 +210,14 @@ impl Printer {
     }
 
     #[cycle(printer)]
-    fn whole_part(&mut self, part: &More) -> Result<(), Fail> {
+    fn whole_part(&mut self, part: &More) -> Result<(), Memory> {
         self.part(&part.kind)?;
         self.put(")")?;
         self.place(Places::Parts, part.span)
     }
 
     #[cycle(printer)]
-    fn part(&mut self, kind: &MoreKind) -> Result<(), Fail> {
+    fn part(&mut self, kind: &MoreKind) -> Result<(), Memory> {
         match kind {
             MoreKind::Subscript(index) => self.next(index),
             MoreKind::Call(args) => {
@@ -411,21 +237,25 @@ impl Printer {
     }
 
     #[cycle(printer)]
-    fn given(&mut self, given: &Given) -> Result<(), Fail> {
+    pub(crate) fn given(&mut self, given: &Given) -> Result<(), Memory> {
         self.put(" ")?;
         match given {
-            Given::Args(args) => {
-                self.put("(init")?;
-                self.all(args.items.as_slice())?;
-                self.put(")")?;
-                self.place(Places::Parts, args.span)
-            }
+            Given::Args(args) => self.args(args),
             Given::Braces(braces) => self.braces(braces),
         }
     }
 
+    /// Arguments in parentheses that something is made from.
     #[cycle(printer)]
-    fn braces(&mut self, braces: &Braces) -> Result<(), Fail> {
+    pub(crate) fn args(&mut self, args: &Args) -> Result<(), Memory> {
+        self.put("(init")?;
+        self.all(args.items.as_slice())?;
+        self.put(")")?;
+        self.place(Places::Parts, args.span)
+    }
+
+    #[cycle(printer)]
+    pub(crate) fn braces(&mut self, braces: &Braces) -> Result<(), Memory> {
         self.put("{")?;
         let mut follows = false;
         for clause in braces.clauses.as_slice() {
@@ -440,7 +270,7 @@ impl Printer {
     }
 
     #[cycle(printer)]
-    fn clause(&mut self, clause: &Clause) -> Result<(), Fail> {
+    fn clause(&mut self, clause: &Clause) -> Result<(), Memory> {
         match clause {
             Clause::Expr(expr) => self.expr(expr),
             Clause::Braces(braces) => self.braces(braces),
@@ -448,7 +278,7 @@ impl Printer {
     }
 
     #[cycle(printer)]
-    fn new_expr(&mut self, new: &New) -> Result<(), Fail> {
+    fn new_expr(&mut self, new: &New) -> Result<(), Memory> {
         self.put("new <")?;
         self.specs(&new.specs)?;
         self.stars(&new.stars)?;
@@ -465,7 +295,7 @@ impl Printer {
     }
 
     #[cycle(printer)]
-    fn bound(&mut self, bound: &Bound) -> Result<(), Fail> {
+    fn bound(&mut self, bound: &Bound) -> Result<(), Memory> {
         self.put(" [")?;
         if let Some(size) = &bound.size {
             self.expr(size.get())?;
@@ -475,13 +305,19 @@ impl Printer {
     }
 
     #[cycle(printer)]
-    fn type_id(&mut self, ty: &TypeId) -> Result<(), Fail> {
+    pub(crate) fn bounds(&mut self, bounds: &List<Bound>) -> Result<(), Memory> {
+        for bound in bounds.as_slice() {
+            self.bound(bound)?;
+        }
+        Ok(())
+    }
+
+    #[cycle(printer)]
+    pub(crate) fn type_id(&mut self, ty: &TypeId) -> Result<(), Memory> {
         self.put(" <")?;
         self.specs(&ty.specs)?;
         self.ptrs(&ty.ptrs)?;
-        for bound in ty.bounds.as_slice() {
-            self.bound(bound)?;
-        }
+        self.bounds(&ty.bounds)?;
         self.put(">")?;
         self.place(Places::Parts, ty.span)
     }
