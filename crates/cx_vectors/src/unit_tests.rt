@@ -1,6 +1,8 @@
 //! Cases of whole units, worked out by hand from the rules of the language.
 use crate::cases::{Case, Cases, run_case};
 use cx_base::Limits;
+use cx_parser_units::VECTOR;
+use cx_unit::{Mode, report, verdict_on};
 use std::alloc::Global;
 use std::test::Fail;
 
@@ -53,6 +55,15 @@ const TOKENS: Cases<9> = Cases {
     ],
 };
 
+fn reports(alloc: Global, source: &str, wanted: &str) -> Result<bool, Fail> {
+    if source.len() > 4_194_304 {
+        return Ok(false);
+    }
+    let verdict = verdict_on(alloc, source.as_bytes(), LIMITS).map_err(|_| "memory")?;
+    let text = report(alloc, &verdict, Mode::Print).map_err(|_| "memory")?;
+    Ok(text.as_slice() == wanted.as_bytes())
+}
+
 fn holds(alloc: Global, case: &Case) -> Result<bool, Fail> {
     if case.source.len() > 4_194_304 {
         return Ok(false);
@@ -79,5 +90,35 @@ fn literals_comments_and_lines(rt: HostRuntime) -> Result<(), Fail> {
 #[test]
 fn another_report_is_no_report(rt: HostRuntime) -> Result<(), Fail> {
     assert!(rt; !holds(rt.alloc(), &row!("constexpr int a = 1;" => "accepted 1\n"))?);
+    Ok(())
+}
+
+// A variable whose initializer stands in so many parentheses, and whether its report is the one.
+fn nested(alloc: Global, levels: usize, wanted: &str) -> Result<bool, Fail> {
+    let mut source = String::from_str(alloc, "constexpr int a = ")?;
+    for _ in 0..levels {
+        source.push_str("(")?;
+    }
+    source.push_str("1")?;
+    for _ in 0..levels {
+        source.push_str(")")?;
+    }
+    source.push_str(";\n")?;
+    reports(alloc, source.as_str(), wanted)
+}
+
+#[test]
+fn the_last_level(rt: HostRuntime) -> Result<(), Fail> {
+    let alloc = rt.alloc();
+    assert!(rt; nested(alloc, 512, "1:15 constexpr a = 1\naccepted 1\n")?);
+    assert!(rt; nested(alloc, 513, "1:531-1:532 [profile] nesting\n")?);
+    Ok(())
+}
+
+// A namespace is the first form of it that is left out so far.
+#[test]
+fn a_unit_as_programs_have_it(rt: HostRuntime) -> Result<(), Fail> {
+    let report = "2:1-52:2 [profile] left-out-form\n";
+    assert!(rt; reports(rt.alloc(), VECTOR, report)?);
     Ok(())
 }
