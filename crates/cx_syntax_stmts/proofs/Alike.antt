@@ -7,8 +7,8 @@ use Rattle.cx_grammar.proofs.Parts.{Same}
 and_true : (b c : Bool) → b ≡ true → c ≡ true → (b && c) ≡ true
 and_true b c e f = ap (λ v. v && c) e ∙ f
 
-module _ {T P B C D1 D2 D E M : Type 0} (f : List T → M) (A : Family T P) (X : Family T B) (Y : Family T C)
-    (made1 : (P × B) × M → D1) (out1 : D1 → D) (made2 : (P × C) × M → D2) (out2 : D2 → D) (in1 : B → E) (in2 : C → E) (join : (P × E) × M → D)
+module _ {T P B C MadeB MadeC D E M : Type 0} (f : List T → M) (A : Family T P) (X : Family T B) (Y : Family T C)
+    (made1 : (P × B) × M → MadeB) (out1 : MadeB → D) (made2 : (P × C) × M → MadeC) (out2 : MadeC → D) (in1 : B → E) (in2 : C → E) (join : (P × E) × M → D)
     (join1 : (p : P) (b : B) (m : M) → join ((p, in1 b), m) ≡ out1 (made1 ((p, b), m))) (join2 : (p : P) (c : C) (m : M) → join ((p, in2 c), m) ≡ out2 (made2 ((p, c), m)))
     (stays_a : (n : ℕ) → (A n).stays ≡ true) (stays_x : (n : ℕ) → (X n).stays ≡ true) (stays_y : (n : ℕ) → (Y n).stays ≡ true)
     (blank_a : (n : ℕ) → (A n).begins []) (blank_x : (n : ℕ) → (X n).begins []) (blank_y : (n : ℕ) → (Y n).begins [])

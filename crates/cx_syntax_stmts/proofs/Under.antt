@@ -25,7 +25,7 @@ pub under_measured : {T A B M : Type 0} {K : Family T A} {L : Family T B} (f : L
 under_measured f u = record { spells = λ n x w s. u.spells n x w.0 s.part; begins = u.begins }
 
 -- in a sequence
-pub under_both : {T A B C D : Type 0} {G : Family T A} {G2 : Family T B} {H : Family T C} {H2 : Family T D} → Under G G2 → Under H H2 → Under (λ n. G n >> H n) (λ n. G2 n >> H2 n)
+pub under_both : {T A B C D : Type 0} {G : Family T A} {Gs : Family T B} {H : Family T C} {Hs : Family T D} → Under G Gs → Under H Hs → Under (λ n. G n >> H n) (λ n. Gs n >> Hs n)
 under_both u v = record {
   spells = λ n x w s. let a = u.spells n s.front w.0 s.first in let b = v.spells n s.back w.1 s.second in ((a.0, b.0), record { front = s.front; back = s.back; cut = s.cut; first = a.1; second = b.1 });
   begins = λ n x b. elim b [ in_first c ↦ in_first (u.begins n x c) | in_second f k w cut s c ↦ let a = u.spells n f w s in in_second f k a.0 cut a.1 (v.begins n k c) ];
