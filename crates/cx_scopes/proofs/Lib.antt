@@ -1,0 +1,12 @@
+pub mod Agreed
+pub mod Arguing
+pub mod Associated
+pub mod Cases
+pub mod Equal
+pub mod Finding
+pub mod Growing
+pub mod Inserted
+pub mod Known
+pub mod Outwards
+pub mod Stacked
+pub mod Tabled
