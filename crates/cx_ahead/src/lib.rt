@@ -5,8 +5,6 @@ mod ahead;
 mod faults;
 mod operators;
 mod sets;
-#[cfg(test)]
-mod tests;
 mod values;
 
 pub use ahead::{behind, qtype_ahead, qtype_end, sees, type_ahead};

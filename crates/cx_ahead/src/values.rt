@@ -8,7 +8,7 @@ use cx_base::IntType;
 use cx_grammar::{Pick, Test};
 use cx_ints::Int;
 use cx_syntax::{Class, Lexeme};
-use cx_tokens::TokenKind;
+use cx_token_defs::TokenKind;
 use cx_tree::{
     AssignOp, BinaryOp, CastWord, ClassKey, Elaboration, ExprKind, Modifier, ModifierWord,
     MoreKind, Overloaded, PrefixOp, Reach, TypeWord, WordOrModifier,

@@ -12,8 +12,6 @@ mod operations;
 mod operators;
 mod ranges;
 mod shifts;
-#[cfg(test)]
-mod tests;
 
 pub use conversions::{common, convert, promote};
 pub use cx_base::IntType;

@@ -11,6 +11,3 @@ pub use build::{row_shape, type_shape};
 pub use measure::{Measure, measured};
 pub use shape::{Shape, size_of};
 pub use way::{Piece, Way, part_at, seek, way_of};
-
-#[cfg(test)]
-mod tests;

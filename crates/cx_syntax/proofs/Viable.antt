@@ -2,7 +2,7 @@
 use Rattle.std.proofs.Common.{◌≡◌, ℕ, zero, suc, Bool, true, List, [], ◌∷◌, ◌++◌, Option, Some, None, refl, sym, ◌∙◌, ap, subst, inl, inr, append_assoc, if◌then◌else◌}
 use Rattle.std.proofs.lemmas.List.{append-nil}
 use Rattle.cx_grammar.specs.Language.{Language, one, the, none_yet, some, in_first, in_second, ◌>>◌, ◌∥◌, ◌⊳◌, ◌⊲◌, maybe, many, upto, such, names}
-use Rattle.cx_tokens.specs.declared.TokenKind.TheVariants as kind
+use Rattle.cx_token_defs.specs.declared.TokenKind.TheVariants as kind
 use Rattle.cx_tree.specs.declared.specifiers.Modifier.{Modifier}
 use Rattle.cx_tree.specs.declared.specifiers.SpecsType.{SpecsType}
 use Rattle.cx_syntax.specs.declared.class.Class.{Class}

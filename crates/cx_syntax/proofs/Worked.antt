@@ -4,7 +4,7 @@ use Rattle.cx_base.specs.declared.rule.Rule.{Rule}
 use Rattle.cx_base.specs.declared.rule.Rule.TheVariants.{Syntax, Nesting}
 use Rattle.cx_grammar.specs.Exact.{Outcome, done, stop}
 use Rattle.cx_grammar.specs.Reading.{many_of, many_when, others_by}
-use Rattle.cx_tokens.specs.declared.TokenKind.TheVariants as kind
+use Rattle.cx_token_defs.specs.declared.TokenKind.TheVariants as kind
 use Rattle.cx_syntax.specs.declared.class.Class.{Class}
 use Rattle.cx_syntax.specs.declared.class.Class.TheVariants as k
 use Rattle.cx_syntax.specs.declared.lexeme.Lexeme.{Lexeme}

@@ -2,9 +2,9 @@
 use Rattle.std.specs.Prelude.{ℕ, Bool, true, false, List, [], ◌∷◌, Option, Some, None, codes, if◌then◌else◌, map}
 use Rattle.std.specs.Option.{option_or, unwrap_or}
 use Rattle.std.specs.Str.{bytes_eq}
-use Rattle.cx_tokens.specs.declared.Token.{Token}
-use Rattle.cx_tokens.specs.declared.TokenKind.{TokenKind}
-use Rattle.cx_tokens.specs.declared.TokenKind.TheVariants as kind
+use Rattle.cx_token_defs.specs.declared.Token.{Token}
+use Rattle.cx_token_defs.specs.declared.TokenKind.{TokenKind}
+use Rattle.cx_token_defs.specs.declared.TokenKind.TheVariants as kind
 use Rattle.cx_syntax.specs.declared.class.Class.{Class}
 use Rattle.cx_syntax.specs.declared.class.Class.TheVariants as k
 use Rattle.cx_syntax.specs.declared.lexeme.Lexeme.{Lexeme}

@@ -4,8 +4,8 @@ use Rattle.cx_base.specs.declared.diag.Mark.{Mark}
 use Rattle.cx_base.specs.declared.diag.Span.{Span}
 use Rattle.cx_base.specs.declared.int_type.IntType.TheVariants as ty
 use Rattle.cx_ints.specs.declared.int.Int.{Int as Number}
-use Rattle.cx_tokens.specs.declared.TokenKind.{TokenKind}
-use Rattle.cx_tokens.specs.declared.TokenKind.TheVariants as kind
+use Rattle.cx_token_defs.specs.declared.TokenKind.{TokenKind}
+use Rattle.cx_token_defs.specs.declared.TokenKind.TheVariants as kind
 use Rattle.cx_tree.specs.declared.names.Ident.{Ident}
 use Rattle.cx_tree.specs.declared.names.TypeName.{TypeName}
 use Rattle.cx_tree.specs.declared.names.FunctionName.{FunctionName}

@@ -7,7 +7,7 @@ use crate::class::Class;
 use crate::lexeme::Lexeme;
 use crate::spellings::{operator_class, word_class};
 use cx_base::{List, Memory, Text};
-use cx_tokens::{Token, TokenKind};
+use cx_token_defs::{Token, TokenKind};
 use std::alloc::Global;
 
 /// The set of the names of types.

@@ -6,7 +6,7 @@ ghost use Rattle.cx_syntax.specs.Classes.{same_class};
 use crate::class::Class;
 use cx_base::{Span, Text};
 use cx_grammar::Test;
-use cx_tokens::TokenKind;
+use cx_token_defs::TokenKind;
 
 /// A token as the grammar sees it: its class, and what its value is made from.
 #[derive(Debug, Drop)]

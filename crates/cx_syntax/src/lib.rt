@@ -15,6 +15,3 @@ pub use laws::{ends_nowhere, fronts_go_on, one_tree, readers_are_exact};
 pub use lexeme::Lexeme;
 pub use parts::{MemberPart, Tail};
 pub use spans::span_of;
-
-#[cfg(test)]
-mod tests;

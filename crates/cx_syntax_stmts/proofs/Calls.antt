@@ -9,7 +9,7 @@ use Rattle.cx_grammar.proofs.Heads.{or_right}
 use Rattle.cx_grammar.proofs.Lists.{cancel}
 use Rattle.cx_grammar.proofs.Steps.{Exactly}
 use Rattle.cx_grammar.proofs.Unless.{Stable, First}
-use Rattle.cx_tokens.specs.declared.TokenKind.TheVariants as kind
+use Rattle.cx_token_defs.specs.declared.TokenKind.TheVariants as kind
 use Rattle.cx_tree.specs.declared.exprs.Expr.{Expr}
 use Rattle.cx_syntax.specs.declared.class.Class.TheVariants as k
 use Rattle.cx_syntax.specs.declared.lexeme.Lexeme.{Lexeme}

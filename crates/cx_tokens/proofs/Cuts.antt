@@ -2,7 +2,7 @@
 use Rattle.std.proofs.Common.{◌≡◌, ◌≢◌, ◌⊎◌, inl, inr, ℕ, zero, suc, ◌<◌, ◌≤◌, Bool, List, [], ◌∷◌, length, drop, Some, None, refl, ap, sym, ◌∙◌, subst, arith, length-drop, length-take}
 use Rattle.std.specs.List.{fold}
 use Rattle.cx_base.specs.declared.diag.Diag.{Diag}
-use Rattle.cx_tokens.specs.declared.Token.{Token}
+use Rattle.cx_token_defs.specs.declared.Token.{Token}
 use Rattle.cx_tokens.specs.Faults.{earlier, faults_from, first_of}
 use Rattle.cx_tokens.specs.Tokens.{LexFault, Lexes}
 use Rattle.cx_tokens.specs.Pieces.{size_of}

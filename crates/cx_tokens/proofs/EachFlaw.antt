@@ -3,7 +3,7 @@ use Rattle.std.proofs.Common.{◌≡◌, ℕ, Bool, true, false, cond, List, [],
 use Rattle.std.specs.Option.{option_or, option_to_list}
 use Rattle.cx_base.specs.declared.rule.Rule.{Rule}
 use Rattle.cx_base.specs.declared.rule.Rule.TheVariants as rule
-use Rattle.cx_tokens.specs.declared.TokenKind.{TokenKind}
+use Rattle.cx_token_defs.specs.declared.TokenKind.{TokenKind}
 use Rattle.cx_tokens.specs.declared.shapes.Flaw.{Flaw}
 use Rattle.cx_tokens.specs.declared.literals.Look.TheVariants as look
 use Rattle.cx_tokens.specs.Bytes.{begins_name, byte_at}

@@ -3,7 +3,7 @@ use Rattle.std.proofs.Common.{◌≡◌, true, false, [], ◌∷◌, Some, None,
 use Rattle.std.specs.Prelude.{codes}
 use Rattle.cx_base.specs.declared.rule.Rule.TheVariants as rule
 use Rattle.cx_ints.specs.declared.literals.Suffix.TheVariants as suffix
-use Rattle.cx_tokens.specs.declared.TokenKind.TheVariants as kind
+use Rattle.cx_token_defs.specs.declared.TokenKind.TheVariants as kind
 use Rattle.cx_tokens.specs.Literals.{bad_escape, begins_escape, byte_flaw, escape_size, escape_value, is_bad_byte, is_closed, is_one_character, is_whole, literal_kind, literal_size, part_size, part_value, quoted, quoted_at, string_bytes}
 use Rattle.cx_tokens.specs.Marks.{mark_of}
 use Rattle.cx_tokens.specs.Names.{alternatives, encoding_prefixes, name, name_with, words, words_left_out}

@@ -9,7 +9,7 @@ use Rattle.cx_base.specs.declared.rule.Rule.TheVariants as rule
 use Rattle.cx_ints.specs.declared.literals.Suffix.{Suffix}
 use Rattle.cx_base.specs.declared.int_type.IntType.{IntType}
 use Rattle.cx_tokens.specs.declared.shapes.Flaw.{Flaw}
-use Rattle.cx_tokens.specs.declared.TokenKind.{TokenKind}
+use Rattle.cx_token_defs.specs.declared.TokenKind.{TokenKind}
 use Rattle.cx_tokens.specs.Bytes.{byte_at, begins_name, is_blank, is_splice, place_where}
 use Rattle.cx_tokens.specs.Literals.{bad_escape, begins_escape, behind_flaws, byte_flaw, ends, escape_size, escape_value, first_flaw, first_or, inner_size, is_bad_byte, is_closed, literal_flaws, literal_kind, literal_size, own_flaws, own_rule, is_whole, part_size, parts, parts_behind, place_in, quoted, quoted_at, sizes}
 use Rattle.cx_tokens.specs.Names.{is_among, is_quote, name, name_size, name_with, is_left_out_name, longest_name}

@@ -5,7 +5,7 @@ use Rattle.std.proofs.lemmas.Bool.{le-ltb, lt-ltb, ltb-false, ltb-true}
 use Rattle.std.proofs.lemmas.List.{drop-drop}
 use Rattle.std.proofs.lemmas.List.Sums.{fold-append}
 use Rattle.cx_base.specs.declared.diag.Diag.{Diag}
-use Rattle.cx_tokens.specs.declared.Token.{Token}
+use Rattle.cx_token_defs.specs.declared.Token.{Token}
 use Rattle.cx_tokens.specs.declared.shapes.Flaw.{Flaw}
 use Rattle.cx_tokens.specs.declared.step.Here.{Here}
 use Rattle.cx_tokens.specs.declared.LexAnswer.{LexAnswer}

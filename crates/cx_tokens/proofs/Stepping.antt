@@ -5,8 +5,8 @@ use Rattle.std.proofs.lemmas.List.{take_min}
 use Rattle.std.proofs.Math.Seq.{take-add}
 use Rattle.cx_base.specs.declared.diag.Diag.{Diag}
 use Rattle.cx_base.specs.declared.diag.Mark.{Mark}
-use Rattle.cx_tokens.specs.declared.Token.{Token}
-use Rattle.cx_tokens.specs.declared.TokenKind.{TokenKind}
+use Rattle.cx_token_defs.specs.declared.Token.{Token}
+use Rattle.cx_token_defs.specs.declared.TokenKind.{TokenKind}
 use Rattle.cx_tokens.specs.declared.shapes.Flaw.{Flaw}
 use Rattle.cx_tokens.specs.declared.shapes.Shape.TheVariants as shape
 use Rattle.cx_tokens.specs.declared.step.Here.{Here}

@@ -3,8 +3,8 @@ use Rattle.std.specs.Prelude.{ℕ, ℤ, pos, zero, suc, Bool, not, ◌+◌, ◌-
 use Rattle.std.specs.Option.{option_or, option_to_list, unwrap_or}
 use Rattle.cx_base.specs.declared.rule.Rule.{Rule}
 use Rattle.cx_base.specs.declared.rule.Rule.TheVariants as rule
-use Rattle.cx_tokens.specs.declared.TokenKind.{TokenKind}
-use Rattle.cx_tokens.specs.declared.TokenKind.TheVariants as kind
+use Rattle.cx_token_defs.specs.declared.TokenKind.{TokenKind}
+use Rattle.cx_token_defs.specs.declared.TokenKind.TheVariants as kind
 use Rattle.cx_tokens.specs.declared.shapes.Flaw.{Flaw}
 use Rattle.cx_tokens.specs.Bytes.{byte_at, begins_name, is_blank, is_hex, is_octal, is_splice, run_of}
 use Rattle.cx_tokens.specs.Numbers.{value_of}

@@ -5,7 +5,7 @@ use Rattle.cx_base.specs.declared.rule.Rule.TheVariants as rule
 use Rattle.cx_ints.specs.declared.literals.Suffix.{Suffix}
 use Rattle.cx_ints.specs.declared.literals.Suffix.TheVariants as suffix
 use Rattle.cx_ints.specs.Literals.{literal_type}
-use Rattle.cx_tokens.specs.declared.TokenKind.TheVariants as kind
+use Rattle.cx_token_defs.specs.declared.TokenKind.TheVariants as kind
 use Rattle.cx_tokens.specs.Bytes.{byte_at, is_digit, is_hex, is_name_byte, run_of}
 use Rattle.cx_tokens.specs.Pieces.{Found, token, broken}
 

@@ -1,7 +1,7 @@
 -- What can be found at a place of the text: white space, a token, or something that has faults.
 use Rattle.std.specs.Prelude.{ℕ, List, [], ◌∷◌}
 use Rattle.cx_base.specs.declared.rule.Rule.{Rule}
-use Rattle.cx_tokens.specs.declared.TokenKind.{TokenKind}
+use Rattle.cx_token_defs.specs.declared.TokenKind.{TokenKind}
 use Rattle.cx_tokens.specs.declared.shapes.Flaw.{Flaw}
 
 -- So many bytes of white space, so many bytes of a token, or so many bytes with one fault or more.

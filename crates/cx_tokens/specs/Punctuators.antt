@@ -2,7 +2,7 @@
 use Rattle.std.specs.Prelude.{ℕ, Bool, not, ◌==◌, ◌||◌, ◌&&◌, List, [], ◌∷◌, if◌then◌else◌, codes, take}
 use Rattle.std.specs.List.{list_any}
 use Rattle.cx_base.specs.declared.rule.Rule.TheVariants as rule
-use Rattle.cx_tokens.specs.declared.TokenKind.TheVariants as kind
+use Rattle.cx_token_defs.specs.declared.TokenKind.TheVariants as kind
 use Rattle.cx_tokens.specs.Bytes.{byte_at}
 use Rattle.cx_tokens.specs.Names.{is_among}
 use Rattle.cx_tokens.specs.Pieces.{Found, token, broken}

@@ -3,7 +3,7 @@ use Rattle.std.specs.Prelude.{◌≡◌, ℕ, Bool, ◌+◌, not, ◌==◌, ◌|
 use Rattle.std.specs.List.{list_any}
 use Rattle.cx_base.specs.declared.diag.Diag.{Diag}
 use Rattle.cx_base.specs.declared.diag.Mark.{Mark}
-use Rattle.cx_tokens.specs.declared.Token.{Token}
+use Rattle.cx_token_defs.specs.declared.Token.{Token}
 use Rattle.cx_tokens.specs.declared.LexAnswer.{LexAnswer}
 use Rattle.cx_tokens.specs.declared.LexAnswer.TheVariants as answer
 use Rattle.cx_tokens.specs.declared.shapes.Flaw.{Flaw}

@@ -1,7 +1,7 @@
 -- The tokens of a source, or its first lexical fault ([lex]). A text has tokens or a fault, never both, and one of either.
 use Rattle.std.specs.Prelude.{◌≡◌, ℕ, List, [], Some}
 use Rattle.cx_base.specs.declared.diag.Diag.{Diag}
-use Rattle.cx_tokens.specs.declared.Token.{Token}
+use Rattle.cx_token_defs.specs.declared.Token.{Token}
 use Rattle.cx_tokens.specs.declared.LexAnswer.{LexAnswer}
 use Rattle.cx_tokens.specs.declared.LexAnswer.TheVariants as answer
 use Rattle.cx_tokens.specs.Cut.{IsCut, Piece, tokens_from}

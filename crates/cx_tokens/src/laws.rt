@@ -1,7 +1,7 @@
 //! What holds of every source.
 ghost use Rattle.std.specs.Prelude.{◌≡◌, ◌⊎◌, ℕ, List};
 ghost use Rattle.cx_base.specs.declared.diag.Diag.{Diag};
-ghost use Rattle.cx_tokens.specs.declared.Token.{Token};
+ghost use Rattle.cx_token_defs.specs.declared.Token.{Token};
 ghost use Rattle.cx_tokens.specs.Tokens.{LexFault, Lexes};
 
 /// Every text has tokens or a first fault, never both, and one of either.

@@ -3,7 +3,7 @@ use Rattle.std.proofs.Common.{◌≡◌, ℕ, zero, suc, Bool, true, false, ◌|
 use Rattle.std.specs.List.{list_any}
 use Rattle.std.specs.Option.{option_map_or}
 use Rattle.std.specs.Str.{bytes_eq}
-use Rattle.cx_tokens.specs.declared.Token.{Token}
+use Rattle.cx_token_defs.specs.declared.Token.{Token}
 use Rattle.cx_type_names.specs.declared.role.Bracket.{Bracket}
 use Rattle.cx_type_names.specs.declared.role.Bracket.TheVariants.{Square}
 use Rattle.cx_type_names.specs.declared.role.Role.{Role}

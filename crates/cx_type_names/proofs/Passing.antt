@@ -1,7 +1,7 @@
 -- Attribute groups are passed one by one.
 use Rattle.std.proofs.Common.{◌≡◌, ℕ, zero, suc, ◌≤◌, Bool, true, false, List, [], ◌∷◌, length, Option, Some, None, refl, ap, arith, if◌then◌else◌}
 use Rattle.std.specs.Option.{option_map_or}
-use Rattle.cx_tokens.specs.declared.Token.{Token}
+use Rattle.cx_token_defs.specs.declared.Token.{Token}
 use Rattle.cx_type_names.specs.declared.role.Bracket.{Bracket}
 use Rattle.cx_type_names.specs.declared.role.Bracket.TheVariants.{Square}
 use Rattle.cx_type_names.specs.Groups.{behind_closer, behind_closers, behind_group, behind_groups, behind_groups_upto, behind_square, open_behind}

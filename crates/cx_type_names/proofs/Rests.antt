@@ -1,6 +1,6 @@
 -- The places of a list.
 use Rattle.std.proofs.Common.{◌≡◌, ℕ, zero, suc, ◌-◌, ◌<◌, List, [], ◌∷◌, drop, refl, ap, ◌∙◌, arith}
-use Rattle.cx_tokens.specs.declared.Token.{Token}
+use Rattle.cx_token_defs.specs.declared.Token.{Token}
 use Rattle.cx_type_names.specs.Walk.{rest_of}
 
 -- what stands behind the token before a place

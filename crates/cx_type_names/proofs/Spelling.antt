@@ -1,7 +1,7 @@
 -- The groups that are passed over are those of the grammar.
 use Rattle.std.proofs.Common.{◌≡◌, ℕ, zero, suc, ◌≤◌, Bool, true, false, List, [], ◌∷◌, ◌++◌, length, Option, Some, None, refl, sym, ap, append_assoc, ◌∙◌, arith, if◌then◌else◌, true≢false}
 use Rattle.std.specs.Option.{option_map_or}
-use Rattle.cx_tokens.specs.declared.Token.{Token}
+use Rattle.cx_token_defs.specs.declared.Token.{Token}
 use Rattle.cx_type_names.specs.declared.role.Bracket.{Bracket}
 use Rattle.cx_type_names.specs.declared.role.Bracket.TheVariants.{Round, Square, Curly}
 use Rattle.cx_type_names.specs.declared.role.Role.{Role}

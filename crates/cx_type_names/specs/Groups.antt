@@ -2,7 +2,7 @@
 -- end of the list, or `soup*` in brackets of one kind.
 use Rattle.std.specs.Prelude.{ℕ, zero, suc, Bool, false, List, [], ◌∷◌, Option, Some, None, if◌then◌else◌, length}
 use Rattle.std.specs.Option.{option_map_or}
-use Rattle.cx_tokens.specs.declared.Token.{Token}
+use Rattle.cx_token_defs.specs.declared.Token.{Token}
 use Rattle.cx_type_names.specs.declared.role.Bracket.{Bracket}
 use Rattle.cx_type_names.specs.declared.role.Bracket.TheVariants.{Square}
 use Rattle.cx_type_names.specs.declared.role.Role.{Role}

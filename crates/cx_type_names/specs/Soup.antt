@@ -3,7 +3,7 @@
 --     group = "[" "[" soup* "]" "]"
 --     soup  = any token but a bracket or the end | "(" soup* ")" | "[" soup* "]" | "{" soup* "}"
 use Rattle.std.specs.Prelude.{◌≡◌, Bool, true, false, List, [], ◌∷◌, ◌++◌}
-use Rattle.cx_tokens.specs.declared.Token.{Token}
+use Rattle.cx_token_defs.specs.declared.Token.{Token}
 use Rattle.cx_type_names.specs.declared.role.Bracket.{Bracket}
 use Rattle.cx_type_names.specs.declared.role.Bracket.TheVariants.{Square}
 use Rattle.cx_type_names.specs.declared.role.Role.{Role}

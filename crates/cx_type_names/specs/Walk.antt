@@ -2,7 +2,7 @@
 -- the place on.
 use Rattle.std.specs.Prelude.{Bool, List, [], ◌∷◌, Option, Some, None, option_map, if◌then◌else◌}
 use Rattle.std.specs.Option.{option_map_or}
-use Rattle.cx_tokens.specs.declared.Token.{Token}
+use Rattle.cx_token_defs.specs.declared.Token.{Token}
 use Rattle.cx_type_names.specs.declared.role.Bracket.{Bracket}
 use Rattle.cx_type_names.specs.declared.role.Bracket.TheVariants.{Square}
 use Rattle.cx_type_names.specs.declared.role.Role.{Role}

@@ -11,7 +11,7 @@ ghost use Rattle.cx_type_names.specs.Walk as walk;
 use crate::closers::{Closer, Closers};
 use crate::role::{Bracket, Role, role_of};
 use cx_base::Memory;
-use cx_tokens::Token;
+use cx_token_defs::Token;
 use std::alloc::Global;
 use std::marker::Model;
 

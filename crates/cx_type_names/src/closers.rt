@@ -4,7 +4,7 @@ ghost use Rattle.cx_type_names.specs.Walk.{matched, unmatched};
 
 use crate::role::{Bracket, same};
 use cx_base::Memory;
-use cx_tokens::Token;
+use cx_token_defs::Token;
 use std::alloc::Global;
 use std::marker::Model;
 

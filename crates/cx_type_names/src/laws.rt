@@ -2,7 +2,7 @@
 ghost use Rattle.std.specs.Prelude.{◌≡◌, ◌||◌, ℕ, List, Some, true};
 ghost use Rattle.std.specs.FinSet.{contains};
 ghost use Rattle.std.specs.List.{list_any};
-ghost use Rattle.cx_tokens.specs.declared.Token.{Token};
+ghost use Rattle.cx_token_defs.specs.declared.Token.{Token};
 ghost use Rattle.cx_type_names.specs.Groups.{behind_group, behind_groups};
 ghost use Rattle.cx_type_names.specs.Names.{is_identifier, is_standard, is_type_name, type_names};
 ghost use Rattle.cx_type_names.specs.Soup.{AreGroups, IsGroup};

@@ -11,6 +11,3 @@ mod role;
 pub use laws::{groups_are_spelled, members};
 pub use name_set::NameSet;
 pub use places::type_names;
-
-#[cfg(test)]
-mod tests;

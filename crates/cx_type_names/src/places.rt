@@ -6,7 +6,7 @@ ghost use Rattle.cx_type_names.specs.Walk.{known_of, rest_of};
 use crate::behind::Behind;
 use crate::name_set::NameSet;
 use cx_base::{List, Memory};
-use cx_tokens::Token;
+use cx_token_defs::Token;
 use std::alloc::Global;
 
 // The names that are always there.

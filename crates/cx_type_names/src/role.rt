@@ -3,7 +3,7 @@ ghost use Rattle.std.specs.Prelude.{◌≡◌};
 ghost use Rattle.std.specs.Str.{bytes_eq};
 ghost use Rattle.cx_type_names.specs.Roles as spec;
 
-use cx_tokens::{Token, TokenKind};
+use cx_token_defs::{Token, TokenKind};
 
 /// A kind of brackets.
 #[derive(Clone, Copy, Debug, PartialEq, Eq)]

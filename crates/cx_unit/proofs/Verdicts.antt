@@ -7,7 +7,7 @@ use Rattle.cx_base.specs.declared.diag.Diag.{Diag}
 use Rattle.cx_source.specs.Contents.{longest_source}
 use Rattle.cx_tokens.specs.declared.LexAnswer.{LexAnswer}
 use Rattle.cx_tokens.specs.declared.LexAnswer.TheVariants as answer
-use Rattle.cx_tokens.specs.declared.Token.{Token}
+use Rattle.cx_token_defs.specs.declared.Token.{Token}
 use Rattle.cx_tokens.specs.Cut.{Piece, token_from, tokens_of, tokens_from}
 use Rattle.cx_tokens.specs.Pieces.{Found, white, token, faulty}
 use Rattle.cx_tokens.specs.Tokens.{Explains, LexFault, Lexes}

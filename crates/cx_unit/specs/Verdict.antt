@@ -3,7 +3,7 @@ use Rattle.std.specs.Prelude.{◌≡◌, ◌⊎◌, ℕ, Bool, true, false, List
 use Rattle.cx_base.specs.declared.diag.Diag.{Diag}
 use Rattle.cx_base.specs.declared.rule.Rule.TheVariants as rule
 use Rattle.cx_source.specs.Contents.{longest_source}
-use Rattle.cx_tokens.specs.declared.Token.{Token}
+use Rattle.cx_token_defs.specs.declared.Token.{Token}
 use Rattle.cx_tokens.specs.declared.LexAnswer.{LexAnswer}
 use Rattle.cx_tokens.specs.declared.LexAnswer.TheVariants as lexed
 use Rattle.cx_tokens.specs.Marks.{mark_of}

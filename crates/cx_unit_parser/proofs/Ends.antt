@@ -12,9 +12,9 @@ use Rattle.cx_syntax_decls.specs.Grammar as g
 use Rattle.cx_syntax_decls.specs.Symbols as symbols
 use Rattle.cx_syntax_decls.specs.Values.{unit_of}
 use Rattle.cx_syntax_decls.proofs.Endless.{endless_decls}
-use Rattle.cx_tokens.specs.declared.Token.{Token}
-use Rattle.cx_tokens.specs.declared.TokenKind.{TokenKind}
-use Rattle.cx_tokens.specs.declared.TokenKind.TheVariants as kind
+use Rattle.cx_token_defs.specs.declared.Token.{Token}
+use Rattle.cx_token_defs.specs.declared.TokenKind.{TokenKind}
+use Rattle.cx_token_defs.specs.declared.TokenKind.TheVariants as kind
 use Rattle.cx_unit_parser.specs.Parsing.{EndsInEnd, is_end_kind, seen}
 
 -- the last of some tokens as the grammar sees them

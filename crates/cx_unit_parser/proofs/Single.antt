@@ -10,7 +10,7 @@ use Rattle.cx_grammar.proofs.Answered.{read_whole, read_more, read_stopped}
 use Rattle.cx_syntax.specs.declared.lexeme.Lexeme.{Lexeme}
 use Rattle.cx_syntax_decls.specs.Symbols as symbols
 use Rattle.cx_syntax_decls.proofs.Knots.{exactly_unit}
-use Rattle.cx_tokens.specs.declared.Token.{Token}
+use Rattle.cx_token_defs.specs.declared.Token.{Token}
 use Rattle.cx_tree.specs.declared.decls.Unit.{Unit as Tree}
 use Rattle.cx_unit_parser.specs.declared.parsing.ParseAnswer.{ParseAnswer}
 use Rattle.cx_unit_parser.specs.Parsing.{EndsInEnd, Explains, IsTree, IsFault, seen}

@@ -1,9 +1,9 @@
 -- What the tokens of a unit spell ([gram]), given the names of types among them, within 512 levels ([implimits]).
 use Rattle.std.specs.Prelude.{◌≡◌, Bool, true, false, List, [], ◌∷◌, length}
 use Rattle.cx_base.specs.declared.diag.Diag.{Diag}
-use Rattle.cx_tokens.specs.declared.Token.{Token}
-use Rattle.cx_tokens.specs.declared.TokenKind.{TokenKind}
-use Rattle.cx_tokens.specs.declared.TokenKind.TheVariants as kind
+use Rattle.cx_token_defs.specs.declared.Token.{Token}
+use Rattle.cx_token_defs.specs.declared.TokenKind.{TokenKind}
+use Rattle.cx_token_defs.specs.declared.TokenKind.TheVariants as kind
 use Rattle.cx_tree.specs.declared.decls.Unit.{Unit as Tree}
 use Rattle.cx_grammar.specs.Answers.{Spelled, FaultAt}
 use Rattle.cx_syntax.specs.declared.lexeme.Lexeme.{Lexeme}

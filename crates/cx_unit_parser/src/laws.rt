@@ -2,7 +2,7 @@
 
 ghost use Rattle.std.specs.Prelude.{◌≡◌, ◌⊎◌, List};
 ghost use Rattle.cx_base.specs.declared.diag.Diag.{Diag};
-ghost use Rattle.cx_tokens.specs.declared.Token.{Token as OfToken};
+ghost use Rattle.cx_token_defs.specs.declared.Token.{Token as OfToken};
 ghost use Rattle.cx_tree.specs.declared.decls.Unit.{Unit as Tree};
 ghost use Rattle.cx_unit_parser.specs.Parsing.{EndsInEnd, IsTree, IsFault};
 

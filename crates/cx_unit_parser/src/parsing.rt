@@ -10,7 +10,7 @@ use cx_base::{Diag, List, Memory, Rule};
 use cx_grammar::ParseStop;
 use cx_parser_decls::parse;
 use cx_syntax::{Lexeme, lexemes};
-use cx_tokens::Token;
+use cx_token_defs::Token;
 use cx_tree::Unit;
 use cx_type_names::type_names;
 use std::alloc::Global;

@@ -3,7 +3,7 @@
 use crate::VECTOR;
 use crate::tests::answers::{tokens_of, verdict};
 use cx_base::Span;
-use cx_tokens::TokenKind;
+use cx_token_defs::TokenKind;
 use std::alloc::Global;
 use std::test::Fail;
 

@@ -1,5 +1,5 @@
 use Rattle.std.proofs.Common.{◌≡◌, ◌∷◌, ◌++◌, ◌∙◌, [], ap, sym, subst, arith}
-use Rattle.cx_tokens.specs.declared.TokenKind.TheVariants as kind
+use Rattle.cx_token_defs.specs.declared.TokenKind.TheVariants as kind
 use Rattle.cx_tokens.specs.Tokens.{Lexes}
 use Rattle.cx_tokens.specs.Cut.{end_token}
 use Rattle.cx_tokens.proofs.Reach.{explained, passes_on, reached_end, reached_on}
