@@ -136,6 +136,10 @@ impl Store for TreeStore {
         cx_record_unions::activate(&mut self.records, types, at, member, alive)
     }
 
+    fn deactivate(&mut self, types: &Types, at: Place) -> Result<(), Rule> {
+        cx_record_unions::deactivate(&mut self.records, types, at)
+    }
+
     fn active(&self, types: &Types, at: Place) -> Result<Option<u32>, Rule> {
         self.records.active_at(types, at)
     }

@@ -1,3 +1,4 @@
 pub mod Members
 pub mod Renewing
 pub mod Activating
+mod Deactivating

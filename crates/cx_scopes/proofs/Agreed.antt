@@ -8,6 +8,8 @@ use lib.Pointwise.{pointwise}
 use Rattle.cx_type_defs.specs.declared.ids.ClassId.{ClassId}
 use Rattle.cx_scopes.specs.declared.kinds.ScopeId.TheVariants as scope
 use Rattle.cx_scopes.specs.declared.kinds.Entity.{Entity}
+use Rattle.cx_scopes.specs.declared.kinds.Sought.{Sought}
+use Rattle.cx_scopes.specs.Names.{counted}
 use Rattle.cx_scopes.specs.Scopes.{ScopeTables, meanings_at, bases_of}
 use Rattle.cx_scopes.specs.Lookup.{together, or_else, said_together, members, same_list}
 use Rattle.cx_scopes.proofs.Equal.{entity_eq, same-list}
@@ -37,27 +39,29 @@ pub said-ambiguous : (said : ClassId → Option (List Entity)) (bases : List Cla
 said-ambiguous said [] = refl
 said-ambiguous said (b ∷ bases) = said-ambiguous said bases
 
--- a class says what it has itself, or what its bases say
-pub members-own : (s : ScopeTables) (levels : ℕ) (c : ClassId) (name : List ℕ) → levels ≢ 0 → meanings_at s (scope.Class c) name ≢ [] → Some (meanings_at s (scope.Class c) name) ≡ members s levels c name
+-- a class says what counts of what it has itself, or what its bases say
+pub members-own : (s : ScopeTables) (sought : Sought) (levels : ℕ) (c : ClassId) (name : List ℕ) → levels ≢ 0 → counted sought (meanings_at s (scope.Class c) name) ≢ []
+    → Some (counted sought (meanings_at s (scope.Class c) name)) ≡ members s sought levels c name
 unfolding members
-members-own s zero c name h k = absurd (h refl)
-members-own s (suc n) c name h k = by (meanings_at s (scope.Class c) name) k (said_together (λ b. members s n b name) (bases_of s c))
+members-own s sought zero c name h k = absurd (h refl)
+members-own s sought (suc n) c name h k = by (counted sought (meanings_at s (scope.Class c) name)) k (said_together (λ b. members s sought n b name) (bases_of s c))
   where
     by : (es : List Entity) → es ≢ [] → (rest : Option (List Entity)) → Some es ≡ or_else (Some es) rest
     by [] k rest = absurd (k refl)
     by (e ∷ es) k rest = refl
 
-pub members-bases : (s : ScopeTables) (levels : ℕ) (c : ClassId) (name : List ℕ) → levels ≢ 0 → meanings_at s (scope.Class c) name ≡ [] → members s levels c name ≡ said_together (λ b. members s (levels - 1) b name) (bases_of s c)
+pub members-bases : (s : ScopeTables) (sought : Sought) (levels : ℕ) (c : ClassId) (name : List ℕ) → levels ≢ 0 → counted sought (meanings_at s (scope.Class c) name) ≡ []
+    → members s sought levels c name ≡ said_together (λ b. members s sought (levels - 1) b name) (bases_of s c)
 unfolding members
-members-bases s zero c name h k = absurd (h refl)
-members-bases s (suc n) c name h k =
-    ap (λ es. or_else (Some es) (said_together (λ b. members s n b name) (bases_of s c))) k
-    ∙ ap (λ m. said_together (λ b. members s m b name) (bases_of s c)) (let e : n ≡ suc n - 1 = omega arith in e)
+members-bases s sought zero c name h k = absurd (h refl)
+members-bases s sought (suc n) c name h k =
+    ap (λ es. or_else (Some es) (said_together (λ b. members s sought n b name) (bases_of s c))) k
+    ∙ ap (λ m. said_together (λ b. members s sought m b name) (bases_of s c)) (let e : n ≡ suc n - 1 = omega arith in e)
 
-pub members-none : (s : ScopeTables) (levels : ℕ) (c : ClassId) (name : List ℕ) → levels ≡ 0 → Some [] ≡ members s levels c name
+pub members-none : (s : ScopeTables) (sought : Sought) (levels : ℕ) (c : ClassId) (name : List ℕ) → levels ≡ 0 → Some [] ≡ members s sought levels c name
 unfolding members
-members-none s zero c name h = refl
-members-none s (suc n) c name h = absurd (omega arith)
+members-none s sought zero c name h = refl
+members-none s sought (suc n) c name h = absurd (omega arith)
 
 module _ {A : Type 0} where
   pub is-empty : (es : List A) → (length es == 0) ≡ true → es ≡ []

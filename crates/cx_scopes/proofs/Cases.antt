@@ -1,9 +1,12 @@
 -- Worked cases of declarations and lookups.
-use Rattle.std.proofs.Common.{◌≡◌, ℕ, true, false, List, [], ◌∷◌, Result, Ok, Err, refl, codes}
+use Rattle.std.proofs.Common.{◌≡◌, ℕ, zero, suc, true, false, List, [], ◌∷◌, Result, Ok, Err, refl, codes}
 use Rattle.cx_type_defs.specs.declared.ids.TypeId.{TypeId}
 use Rattle.cx_type_defs.specs.declared.ids.ClassId.{ClassId}
 use Rattle.cx_type_defs.specs.declared.kind.TypeKind.TheVariants as type
+use Rattle.cx_type_defs.specs.declared.kind.TypeRow.{TypeRow}
 use Rattle.cx_type_defs.specs.Tables.{Tables}
+use Rattle.cx_type_defs.specs.Questions.{most_levels}
+use Rattle.cx_type_defs.specs.Levels.{most_steps}
 use Rattle.cx_scopes.specs.declared.kinds.LookAnswer.{LookAnswer}
 use Rattle.cx_scopes.specs.declared.kinds.LookAnswer.TheVariants.{Ambiguous, Redeclared, Unknown}
 use Rattle.cx_scopes.specs.declared.kinds.ScopeId.TheVariants as scope
@@ -11,10 +14,11 @@ use Rattle.cx_scopes.specs.declared.kinds.Entity.{Entity}
 use Rattle.cx_scopes.specs.declared.kinds.Entity.TheVariants as entity
 use Rattle.cx_scopes.specs.declared.kinds.ScopeKind.{ScopeKind}
 use Rattle.cx_scopes.specs.declared.kinds.ScopeKind.TheVariants as kind
+use Rattle.cx_scopes.specs.declared.kinds.Sought.TheVariants as sought
 use Rattle.cx_scopes.specs.Scopes.{ScopeTables, no_scopes}
-use Rattle.cx_scopes.specs.Steps.{declared, entered_with, left}
-use Rattle.cx_scopes.specs.Lookup.{find_answer, find_in_answer, members}
-use Rattle.cx_scopes.specs.Arguments.{by_args_answer, class_spaces, type_levels, type_spaces}
+use Rattle.cx_scopes.specs.Steps.{declared, declared_in_space, entered_with, present_meanings, space_entered_by, left}
+use Rattle.cx_scopes.specs.Lookup.{find_answer, find_as_answer, find_in_answer, find_in_as_answer, members}
+use Rattle.cx_scopes.specs.Arguments.{by_args_answer, class_spaces, type_spaces}
 
 abbrev after : Result ScopeTables LookAnswer → ScopeTables
 after (Ok s) = s
@@ -154,21 +158,80 @@ two_spaces =
 
 -- the namespace of the class comes first, and that of its base behind it
 through_pointer_and_array : by_args_answer two_spaces types f (type_id 2 ∷ []) ≡ Ok (function 1 ∷ function 0 ∷ [])
-unfolding class_spaces type_levels type_spaces
+unfolding class_spaces most_levels most_steps type_spaces
 through_pointer_and_array = refl
 
 enumerations_namespace : by_args_answer two_spaces types f (type_id 3 ∷ []) ≡ Ok (function 0 ∷ [])
-unfolding class_spaces type_levels type_spaces
+unfolding class_spaces most_levels most_steps type_spaces
 enumerations_namespace = refl
 
 each_namespace_once : by_args_answer two_spaces types f (type_id 3 ∷ type_id 2 ∷ []) ≡ Ok (function 0 ∷ function 1 ∷ [])
-unfolding class_spaces type_levels type_spaces
+unfolding class_spaces most_levels most_steps type_spaces
 each_namespace_once = refl
 
 class_that_is_only_named : by_args_answer two_spaces types f (type_id 4 ∷ []) ≡ Ok (function 1 ∷ [])
-unfolding class_spaces type_levels type_spaces
+unfolding class_spaces most_levels most_steps type_spaces
 class_that_is_only_named = refl
 
 no_function_there : by_args_answer two_spaces types x (type_id 2 ∷ []) ≡ Err Unknown
-unfolding class_spaces type_levels type_spaces
+unfolding class_spaces most_levels most_steps type_spaces
 no_function_there = refl
+
+-- a class in `namespace N`, with as many pointers to it as a type may have levels, and the function f there
+abbrev pointers : ℕ → List TypeRow
+pointers zero = record { kind = type.Class (class_id 0); konst = false } ∷ []
+pointers (suc i) = record { kind = type.Pointer (type_id i); konst = false } ∷ pointers i
+
+abbrev turned : List TypeRow → List TypeRow → List TypeRow
+turned [] done = done
+turned (r ∷ rows) done = turned rows (r ∷ done)
+
+abbrev deep : Tables
+deep = record { rows = turned (pointers 512) []; classes = []; enums = [] }
+
+-- `f(p)` for a pointer of 512 levels, from outside the namespace
+deepest_pointer : by_args_answer (left (declaring (without (entering no_scopes (kind.Namespace n)) 0 []) f (function 0))) deep f (type_id 512 ∷ []) ≡ Ok (function 0 ∷ [])
+unfolding class_spaces most_levels most_steps type_spaces
+deepest_pointer = refl
+
+-- `namespace N { constexpr int x = 3; } constexpr int f(int N) { return N::x + N; }`
+abbrev parameter_named_as_space : ScopeTables
+parameter_named_as_space = declaring (entering (left (declaring (entering no_scopes (kind.Namespace n)) x (variable 0))) (kind.Function (record { 0 = 0 }))) n (variable 1)
+
+space_before_colons : find_as_answer parameter_named_as_space sought.Qualifier n ≡ Ok (entity.Space (scope.Space 1) ∷ [])
+space_before_colons = refl
+
+parameter_elsewhere : find_answer parameter_named_as_space n ≡ Ok (variable 1 ∷ [])
+parameter_elsewhere = refl
+
+variable_is_no_qualifier : find_in_as_answer parameter_named_as_space sought.Qualifier (scope.Space 1) x ≡ Err Unknown
+variable_is_no_qualifier = refl
+
+-- a class has a function f, and so has the global namespace
+abbrev in_class_with_operator : ScopeTables
+in_class_with_operator = declaring (entering (declaring no_scopes f (function 0)) (kind.Class (class_id 0) [])) f (function 1)
+
+class_members_are_passed_over : find_as_answer in_class_with_operator sought.NonMember f ≡ Ok (function 0 ∷ [])
+class_members_are_passed_over = refl
+
+class_members_are_found_else : find_answer in_class_with_operator f ≡ Ok (function 1 ∷ [])
+unfolding members
+class_members_are_found_else = refl
+
+-- `enum x : int;` in a block, where the block has no x and the scope around it has
+present_scope_alone : present_meanings (entering (declaring no_scopes x (variable 0)) kind.Block) x ≡ []
+present_scope_alone = refl
+
+-- `namespace N { int f() { struct x* p; .. } }` declares the class in the namespace
+abbrev from_a_block : ScopeTables
+from_a_block = after (declared_in_space (entering (entering (entering no_scopes (kind.Namespace n)) (kind.Function (record { 0 = 0 }))) kind.Block) x (entity.Named (type_id 0)))
+
+declared_around_a_block : find_in_answer from_a_block (scope.Space 1) x ≡ Ok (entity.Named (type_id 0) ∷ [])
+declared_around_a_block = refl
+
+found_from_the_block : find_answer from_a_block x ≡ Ok (entity.Named (type_id 0) ∷ [])
+found_from_the_block = refl
+
+-- `namespace N { int x; int f(); } int N::f() { return x; }`
+entered_by_its_number : find_answer (entering (space_entered_by (left (declaring (entering no_scopes (kind.Namespace n)) x (variable 0))) n 1) (kind.Function (record { 0 = 0 }))) x ≡ Ok (variable 0 ∷ [])
+entered_by_its_number = refl

@@ -10,6 +10,7 @@ use Rattle.cx_scopes.specs.declared.kinds.ScopeId.{ScopeId}
 use Rattle.cx_scopes.specs.declared.kinds.ScopeId.TheVariants as scope
 use Rattle.cx_scopes.specs.declared.kinds.Entity.{Entity}
 use Rattle.cx_scopes.specs.declared.kinds.Entity.TheVariants as entity
+use Rattle.cx_scopes.specs.declared.kinds.Sought.TheVariants as sought
 use Rattle.cx_scopes.specs.declared.entered.Entered.{Entered}
 use Rattle.cx_scopes.specs.Names.{Names, meanings, with_meaning, same_scope, same_entity, is_among, may_join}
 use Rattle.cx_scopes.specs.Scopes.{ScopeTables, names_at, with_name, meanings_at, place_of}
@@ -95,17 +96,17 @@ among-some : (e : Entity) (es : List Entity) → is_among e es ≡ true → es �
 among-some e es h k = let z : false ≡ true = sym (ap (is_among e) k) ∙ h in cc
 
 said-own : (p : Option ScopeId) (x : Entered) (entered : List Entered) (u : ScopeTables) (name : List ℕ) (rest : Option (List Entity)) → IsKept u p → own_meanings p (x ∷ entered) u name ≢ []
-    → or_else (said_by u p x name) rest ≡ Some (own_meanings p (x ∷ entered) u name)
+    → or_else (said_by u sought.Meaning p x name) rest ≡ Some (own_meanings p (x ∷ entered) u name)
 said-own None x entered u name rest kept h = or_else-some (meanings x.own name) rest h
 said-own (Some (scope.Space n)) x entered u name rest kept h = or_else-some (meanings_at u (scope.Space n) name) rest h
 said-own (Some (scope.Enum e)) x entered u name rest kept h = or_else-some (meanings_at u (scope.Enum e) name) rest h
 said-own (Some (scope.Class c)) x entered u name rest kept h =
-    ap (λ o. or_else o rest) (sym (members-own u (levels_of u) c name (λ none. let z : 0 < length u.classes = kept in omega arith) h))
+    ap (λ o. or_else o rest) (sym (members-own u sought.Meaning (levels_of u) c name (λ none. let z : 0 < length u.classes = kept in omega arith) h))
     ∙ or_else-some (meanings_at u (scope.Class c) name) rest h
 
-said-present : (entered : List Entered) (u : ScopeTables) (name : List ℕ) → IsKept u (place_of entered) → own_meanings (place_of entered) entered u name ≢ [] → said_from u entered name ≡ Some (own_meanings (place_of entered) entered u name)
+said-present : (entered : List Entered) (u : ScopeTables) (name : List ℕ) → IsKept u (place_of entered) → own_meanings (place_of entered) entered u name ≢ [] → said_from u sought.Meaning entered name ≡ Some (own_meanings (place_of entered) entered u name)
 said-present [] u name kept h = refl
-said-present (x ∷ entered) u name kept h = said-own x.scope x entered u name (said_from u entered name) kept h
+said-present (x ∷ entered) u name kept h = said-own x.scope x entered u name (said_from u sought.Meaning entered name) kept h
 
 answered-some : (es : List Entity) → es ≢ [] → answer_of (Some es) ≡ Ok es
 answered-some [] h = absurd (h refl)

@@ -17,7 +17,7 @@ use Rattle.cx_scopes.specs.declared.kinds.ScopeKind.{ScopeKind}
 use Rattle.cx_scopes.specs.declared.kinds.ScopeKind.TheVariants as kind
 use Rattle.cx_scopes.specs.Names.{Names, meanings, with_meaning, same_scope, is_among, may_join}
 use Rattle.cx_scopes.specs.Scopes.{ScopeTables, names_at, with_name, meanings_at, place_of, space_around}
-use Rattle.cx_scopes.specs.Steps.{present_meanings, declared, with_declaration, types_with, with_entered, with_space, space_entered, entered_with, left}
+use Rattle.cx_scopes.specs.Steps.{own_meanings, declared, declared_at, declared_in_space, space_entered_by, with_declaration, types_with, with_entered, with_class, with_enum, with_space, space_entered, entered_with, left}
 use Rattle.cx_scopes.specs.Growth.{Extends, Grows}
 
 extends-same : {A : Type 0} (xs : List A) → Extends xs xs
@@ -107,7 +107,7 @@ types-kept types (scope.Class c) (entity.Field d i) around t n h = h
 types-kept types (scope.Class c) (entity.Enumerator e i) around t n h = h
 types-kept types (scope.Class c) (entity.Space q) around t n h = h
 
-grows-declaration : (p : Option ScopeId) (s : ScopeTables) (name : List ℕ) (e : Entity) → Grows s (with_declaration p s name e)
+pub grows-declaration : (p : Option ScopeId) (s : ScopeTables) (name : List ℕ) (e : Entity) → Grows s (with_declaration p s name e)
 grows-declaration None s name e = record { more_spaces = omega arith; meanings_stay = λ p other. extends-same (meanings_at s p other); classes_stay = λ c k h. h; enums_stay = λ e n h. h; types_stay = λ t n h. h }
 grows-declaration (Some p) s name e = record {
   more_spaces = omega arith;
@@ -118,18 +118,24 @@ grows-declaration (Some p) s name e = record {
 }
 
 -- a declaration
-pub grows-declared : (s u : ScopeTables) (name : List ℕ) (e : Entity) → declared s name e ≡ Ok u → Grows s u
-grows-declared s u name e h = by (may_join e (present_meanings s name)) (is_among e (present_meanings s name)) h
+pub grows-declared-at : (p : Option ScopeId) (s u : ScopeTables) (name : List ℕ) (e : Entity) → declared_at p s name e ≡ Ok u → Grows s u
+grows-declared-at p s u name e h = by (may_join e (own_meanings p s.entered s name)) (is_among e (own_meanings p s.entered s name)) h
   where
-    by : (b c : Bool) → (if b then Ok (if c then s else with_declaration (place_of s.entered) s name e) else Err Redeclared) ≡ Ok u → Grows s u
+    by : (b c : Bool) → (if b then Ok (if c then s else with_declaration p s name e) else Err Redeclared) ≡ Ok u → Grows s u
     by true true k = subst (Grows s) (let same : s ≡ u = cc in same) (grows-same s)
-    by true false k = subst (Grows s) (let same : with_declaration (place_of s.entered) s name e ≡ u = cc in same) (grows-declaration (place_of s.entered) s name e)
+    by true false k = subst (Grows s) (let same : with_declaration p s name e ≡ u = cc in same) (grows-declaration p s name e)
     by false c k = cc
+
+pub grows-declared : (s u : ScopeTables) (name : List ℕ) (e : Entity) → declared s name e ≡ Ok u → Grows s u
+grows-declared s u name e h = grows-declared-at (place_of s.entered) s u name e h
+
+pub grows-declared-in-space : (s u : ScopeTables) (name : List ℕ) (e : Entity) → declared_in_space s name e ≡ Ok u → Grows s u
+grows-declared-in-space s u name e h = grows-declared-at (Some (scope.Space (space_around s))) s u name e h
 
 grows-entered : (s u : ScopeTables) (k : ScopeKind) (p : Option ScopeId) (n : ℕ) → Grows s u → Grows s (with_entered u k p n)
 grows-entered s u k p n g = record { more_spaces = g.more_spaces; meanings_stay = g.meanings_stay; classes_stay = g.classes_stay; enums_stay = g.enums_stay; types_stay = g.types_stay }
 
-grows-space : (s : ScopeTables) (name : List ℕ) → Grows s (with_space s name)
+pub grows-space : (s : ScopeTables) (name : List ℕ) → Grows s (with_space s name)
 grows-space s name = record {
   more_spaces = omega arith;
   meanings_stay = λ q other. grow-tables q other s.tables (scope.Space (space_around s)) name (entity.Space (scope.Space s.spaces));
@@ -155,25 +161,36 @@ grows-named s u name (entity.Field c i ∷ es) h = cc
 grows-named s u name (entity.Enumerator e i ∷ es) h = cc
 grows-named s u name (entity.Named t ∷ es) h = cc
 
--- a scope that is entered
-pub grows-with : (s u : ScopeTables) (k : ScopeKind) → entered_with s k ≡ Ok u → Grows s u
-grows-with s u (kind.Namespace name) h = grows-named s u name (meanings_at s (scope.Space (space_around s)) name) h
-grows-with s u (kind.Class c bases) h = is-ok (Grows s) _ u h (record {
+-- a class or an enumeration that is kept
+pub grows-class : (s : ScopeTables) (c : ClassId) (bases : List ClassId) → Grows s (record s { classes = with_class s.classes c bases (space_around s) })
+grows-class s c bases = record {
   more_spaces = omega arith;
   meanings_stay = λ q other. extends-same (meanings_at s q other);
   classes_stay = λ d k e. lookup-kept (λ (x : ClassId). d.0 == x.0) (is_some (lookup (λ (x : ClassId). c.0 == x.0) s.classes)) s.classes ((c, record { bases = bases; space = space_around s }) ∷ []) k e;
   enums_stay = λ e n h. h;
   types_stay = λ t n h. h;
-})
-grows-with s u (kind.Enum e) h = is-ok (Grows s) _ u h (record {
+}
+
+pub grows-enum : (s : ScopeTables) (e : EnumId) → Grows s (record s { enums = with_enum s.enums e (space_around s) })
+grows-enum s e = record {
   more_spaces = omega arith;
   meanings_stay = λ q other. extends-same (meanings_at s q other);
   classes_stay = λ d k e. e;
   enums_stay = λ f n k. lookup-kept (λ (x : EnumId). f.0 == x.0) (is_some (lookup (λ (x : EnumId). e.0 == x.0) s.enums)) s.enums ((e, space_around s) ∷ []) n k;
   types_stay = λ t n h. h;
-})
+}
+
+-- a scope that is entered
+pub grows-with : (s u : ScopeTables) (k : ScopeKind) → entered_with s k ≡ Ok u → Grows s u
+grows-with s u (kind.Namespace name) h = grows-named s u name (meanings_at s (scope.Space (space_around s)) name) h
+grows-with s u (kind.Class c bases) h = is-ok (Grows s) _ u h (grows-entered s (record s { classes = with_class s.classes c bases (space_around s) }) (kind.Class c bases) (Some (scope.Class c)) (space_around s) (grows-class s c bases))
+grows-with s u (kind.Enum e) h = is-ok (Grows s) _ u h (grows-entered s (record s { enums = with_enum s.enums e (space_around s) }) (kind.Enum e) (Some (scope.Enum e)) (space_around s) (grows-enum s e))
 grows-with s u (kind.Function f) h = is-ok (Grows s) _ u h (grows-entered s s (kind.Function f) None (space_around s) (grows-same s))
 grows-with s u kind.Block h = is-ok (Grows s) _ u h (grows-entered s s kind.Block None (space_around s) (grows-same s))
+
+-- a namespace that is entered by its number
+pub grows-known-space : (s : ScopeTables) (name : List ℕ) (n : ℕ) → Grows s (space_entered_by s name n)
+grows-known-space s name n = grows-entered s s (kind.Namespace name) (Some (scope.Space n)) n (grows-same s)
 
 -- the scope is left
 pub grows-left : (s : ScopeTables) → Grows s (left s)

@@ -9,7 +9,8 @@ use Rattle.cx_type_defs.specs.declared.ids.EnumId.{EnumId}
 use Rattle.cx_type_defs.specs.declared.kind.TypeRow.{TypeRow}
 use Rattle.cx_type_defs.specs.declared.kind.TypeKind.{TypeKind}
 use Rattle.cx_type_defs.specs.declared.kind.TypeKind.TheVariants as type
-use Rattle.cx_type_defs.specs.Tables.{Tables, IsKnown}
+use Rattle.cx_type_defs.specs.Tables.{Tables}
+use Rattle.cx_type_defs.specs.Levels.{most_steps}
 use Rattle.cx_scopes.specs.declared.kinds.LookAnswer.{LookAnswer}
 use Rattle.cx_scopes.specs.declared.kinds.ScopeId.{ScopeId}
 use Rattle.cx_scopes.specs.declared.kinds.ScopeId.TheVariants as scope
@@ -72,13 +73,9 @@ abbrev pub with_spaces : List ℕ → List ℕ → List ℕ
 with_spaces ns [] = ns
 with_spaces ns (m ∷ ms) = with_spaces (with_space_once ns m) ms
 
--- no type has more levels
-unfoldable pub type_levels : ℕ
-type_levels = 512
-
--- the associated namespaces of the arguments
+-- the associated namespaces of the arguments; no chain of pointers and arrays has more types
 abbrev pub associated : ScopeTables → Tables → List TypeId → List ℕ
-associated s t args = with_spaces [] (flat_map (type_spaces s t type_levels) args)
+associated s t args = with_spaces [] (flat_map (type_spaces s t most_steps) args)
 
 -- the functions with this name in a namespace
 abbrev pub functions_in : ScopeTables → List ℕ → ℕ → List Entity
@@ -94,7 +91,3 @@ ArgsKnown t args = (i : ℕ) (id : TypeId) → slice_get args i ≡ Some id → 
 -- the types that declarations name are types of the tables
 abbrev pub NamesKnown : ScopeTables → Tables → Type 0
 NamesKnown s t = (i : ℕ) (x : TypeId × ℕ) → slice_get s.types i ≡ Some x → x.0.0 < length t.rows
-
--- the types of the tables are made of types of the tables
-abbrev pub RowsKnown : Tables → Type 0
-RowsKnown t = (i : ℕ) (r : TypeRow) → slice_get t.rows i ≡ Some r → IsKnown t r.kind

@@ -4,3 +4,7 @@ pub mod Steps
 pub mod Lookup
 pub mod Arguments
 pub mod Growth
+pub mod Nested
+pub mod Counts
+pub mod Reaching
+pub mod Candidates

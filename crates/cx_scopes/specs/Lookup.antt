@@ -7,7 +7,9 @@ use Rattle.cx_scopes.specs.declared.kinds.ScopeId.{ScopeId}
 use Rattle.cx_scopes.specs.declared.kinds.ScopeId.TheVariants as scope
 use Rattle.cx_scopes.specs.declared.kinds.Entity.{Entity}
 use Rattle.cx_scopes.specs.declared.entered.Entered.{Entered}
-use Rattle.cx_scopes.specs.Names.{meanings, same_entity}
+use Rattle.cx_scopes.specs.declared.kinds.Sought.{Sought}
+use Rattle.cx_scopes.specs.declared.kinds.Sought.TheVariants as sought
+use Rattle.cx_scopes.specs.Names.{meanings, same_entity, counted, looks_into}
 use Rattle.cx_scopes.specs.Scopes.{ScopeTables, global, meanings_at, bases_of}
 
 abbrev pub same_list : List Entity → List Entity → Bool
@@ -37,41 +39,49 @@ abbrev pub said_together : (ClassId → Option (List Entity)) → List ClassId �
 said_together said bases = fold (λ sum b. together sum (said b)) (Some []) bases
 
 -- what a class says, looking so many levels deep: its own meanings, or what its direct bases say
-unfoldable pub members : ScopeTables → ℕ → ClassId → List ℕ → Option (List Entity)
-members s zero c name = Some []
-members s (suc levels) c name = or_else (Some (meanings_at s (scope.Class c) name)) (said_together (λ b. members s levels b name) (bases_of s c))
+unfoldable pub members : ScopeTables → Sought → ℕ → ClassId → List ℕ → Option (List Entity)
+members s sought zero c name = Some []
+members s sought (suc levels) c name = or_else (Some (counted sought (meanings_at s (scope.Class c) name))) (said_together (λ b. members s sought levels b name) (bases_of s c))
 
 -- no class has more levels of bases than there are class scopes
 abbrev pub levels_of : ScopeTables → ℕ
 levels_of s = length s.classes
 
 -- what a namespace, class or enumeration says
-abbrev pub said_in : ScopeTables → ScopeId → List ℕ → Option (List Entity)
-said_in s (scope.Class c) name = members s (levels_of s) c name
-said_in s p name = Some (meanings_at s p name)
+abbrev pub said_in : ScopeTables → Sought → ScopeId → List ℕ → Option (List Entity)
+said_in s sought (scope.Class c) name = members s sought (levels_of s) c name
+said_in s sought p name = Some (counted sought (meanings_at s p name))
 
 -- what a scope that is entered says
-abbrev pub said_by : ScopeTables → Option ScopeId → Entered → List ℕ → Option (List Entity)
-said_by s (Some p) e name = said_in s p name
-said_by s None e name = Some (meanings e.own name)
+abbrev pub said_by : ScopeTables → Sought → Option ScopeId → Entered → List ℕ → Option (List Entity)
+said_by s sought (Some p) e name = if looks_into sought p then said_in s sought p name else Some []
+said_by s sought None e name = Some (counted sought (meanings e.own name))
 
 -- what the innermost scope says that says anything, going outwards to the global namespace
-abbrev pub said_from : ScopeTables → List Entered → List ℕ → Option (List Entity)
-said_from s [] name = said_in s global name
-said_from s (e ∷ entered) name = or_else (said_by s e.scope e name) (said_from s entered name)
+abbrev pub said_from : ScopeTables → Sought → List Entered → List ℕ → Option (List Entity)
+said_from s sought [] name = said_in s sought global name
+said_from s sought (e ∷ entered) name = or_else (said_by s sought e.scope e name) (said_from s sought entered name)
 
 abbrev pub answer_of : Option (List Entity) → Result (List Entity) LookAnswer
 answer_of None = Err Ambiguous
 answer_of (Some []) = Err Unknown
 answer_of (Some (e ∷ es)) = Ok (e ∷ es)
 
+-- the lookup of an unqualified name, for what is sought
+abbrev pub find_as_answer : ScopeTables → Sought → List ℕ → Result (List Entity) LookAnswer
+find_as_answer s sought name = answer_of (said_from s sought s.entered name)
+
+-- the lookup of a qualified name, for what is sought
+abbrev pub find_in_as_answer : ScopeTables → Sought → ScopeId → List ℕ → Result (List Entity) LookAnswer
+find_in_as_answer s sought p name = answer_of (said_in s sought p name)
+
 -- the lookup of an unqualified name
 abbrev pub find_answer : ScopeTables → List ℕ → Result (List Entity) LookAnswer
-find_answer s name = answer_of (said_from s s.entered name)
+find_answer s name = find_as_answer s sought.Meaning name
 
 -- the lookup of a qualified name
 abbrev pub find_in_answer : ScopeTables → ScopeId → List ℕ → Result (List Entity) LookAnswer
-find_in_answer s p name = answer_of (said_in s p name)
+find_in_answer s p name = find_in_as_answer s sought.Meaning p name
 
 -- a call answered this, or ran out of memory
 abbrev pub Answers : {A : Type 0} → Result A LookAnswer → Result A LookAnswer → Type 0

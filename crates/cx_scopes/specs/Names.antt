@@ -8,6 +8,8 @@ use Rattle.cx_scopes.specs.declared.kinds.ScopeId.{ScopeId}
 use Rattle.cx_scopes.specs.declared.kinds.ScopeId.TheVariants as scope
 use Rattle.cx_scopes.specs.declared.kinds.Entity.{Entity}
 use Rattle.cx_scopes.specs.declared.kinds.Entity.TheVariants.{Function, Variable, Field, Enumerator, Named, Space}
+use Rattle.cx_scopes.specs.declared.kinds.Sought.{Sought}
+use Rattle.cx_scopes.specs.declared.kinds.Sought.TheVariants as sought
 
 abbrev pub Names : Type 0
 Names = List (List ℕ × List Entity)
@@ -51,3 +53,25 @@ may_join e es = list_all (stand_together e) es
 
 abbrev pub is_among : Entity → List Entity → Bool
 is_among e es = list_any (same_entity e) es
+
+-- a namespace or a type: what may stand before `::` ([basic.lookup.qual])
+abbrev pub can_qualify : Entity → Bool
+can_qualify (Named t) = true
+can_qualify (Space p) = true
+can_qualify _ = false
+
+-- the meanings of a name in one scope are functions alone, or one entity, so the first shows whether they may stand there
+abbrev pub qualify : List Entity → Bool
+qualify [] = false
+qualify (e ∷ es) = can_qualify e
+
+-- what a lookup counts of a name's meanings in one scope
+abbrev pub counted : Sought → List Entity → List Entity
+counted sought.Qualifier es = if qualify es then es else []
+counted sought.Meaning es = es
+counted sought.NonMember es = es
+
+-- a lookup looks into this scope; one for what no class has looks into no class
+abbrev pub looks_into : Sought → ScopeId → Bool
+looks_into sought.NonMember (scope.Class c) = false
+looks_into _ _ = true

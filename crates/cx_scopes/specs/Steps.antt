@@ -46,13 +46,21 @@ abbrev pub with_declaration : Option ScopeId → ScopeTables → List ℕ → En
 with_declaration None s name e = record s { entered = with_own s.entered name e }
 with_declaration (Some p) s name e = record s { tables = with_name s.tables p name e; types = types_with s.types p e (space_around s) }
 
-abbrev pub joined_to : List Entity → ScopeTables → List ℕ → Entity → Result ScopeTables LookAnswer
-joined_to es s name e = if may_join e es then Ok (if is_among e es then s else with_declaration (place_of s.entered) s name e) else Err Redeclared
+abbrev pub joined_to : List Entity → Option ScopeId → ScopeTables → List ℕ → Entity → Result ScopeTables LookAnswer
+joined_to es p s name e = if may_join e es then Ok (if is_among e es then s else with_declaration p s name e) else Err Redeclared
 
--- a declaration in the present scope: refused where the name has a meaning there that can't stand beside it; the same
--- entity again adds nothing
+-- a declaration in a place, or in the innermost scope: refused where the name has a meaning there that can't stand
+-- beside it; the same entity again adds nothing
+abbrev pub declared_at : Option ScopeId → ScopeTables → List ℕ → Entity → Result ScopeTables LookAnswer
+declared_at p s name e = joined_to (own_meanings p s.entered s name) p s name e
+
+-- a declaration in the present scope
 abbrev pub declared : ScopeTables → List ℕ → Entity → Result ScopeTables LookAnswer
-declared s name e = joined_to (present_meanings s name) s name e
+declared s name e = declared_at (place_of s.entered) s name e
+
+-- a declaration in the innermost namespace, also from inside a class, function or block
+abbrev pub declared_in_space : ScopeTables → List ℕ → Entity → Result ScopeTables LookAnswer
+declared_in_space s name e = declared_at (Some (scope.Space (space_around s))) s name e
 
 -- one more scope is entered
 abbrev pub with_entered : ScopeTables → ScopeKind → Option ScopeId → ℕ → ScopeTables
@@ -84,6 +92,20 @@ entered_with s (kind.Class c bases) = Ok (with_entered (record s { classes = wit
 entered_with s (kind.Enum e) = Ok (with_entered (record s { enums = with_enum s.enums e (space_around s) }) (kind.Enum e) (Some (scope.Enum e)) (space_around s))
 entered_with s (kind.Function f) = Ok (with_entered s (kind.Function f) None (space_around s))
 entered_with s kind.Block = Ok (with_entered s kind.Block None (space_around s))
+
+-- a namespace that is there is entered again by its number
+abbrev pub space_entered_by : ScopeTables → List ℕ → ℕ → ScopeTables
+space_entered_by s name n = with_entered s (kind.Namespace name) (Some (scope.Space n)) n
+
+-- the scope is a namespace
+abbrev pub IsSpace : Option ScopeId → Type 0
+IsSpace (Some (scope.Space n)) = Unit {0}
+IsSpace _ = ⊥
+
+-- a namespace is entered from a namespace ([namespace.def])
+abbrev pub StandsInSpace : ScopeTables → ScopeKind → Type 0
+StandsInSpace s (kind.Namespace name) = IsSpace (place_of s.entered)
+StandsInSpace s _ = Unit {0}
 
 -- a new namespace has a number to be drawn
 abbrev pub HasRoom : ScopeTables → ScopeKind → Type 0

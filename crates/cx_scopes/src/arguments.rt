@@ -1,8 +1,9 @@
 //! The lookup of functions by their arguments.
 ghost use Rattle.std.specs.Prelude.{◌≡◌, ◌<◌, ◌++◌, length, OnOk, IfOk, IfErr};
 ghost use Rattle.std.specs.List.{flat_map};
+ghost use Rattle.cx_type_defs.specs.Levels.{most_steps};
 ghost use Rattle.cx_scopes.specs.Lookup.{Answers};
-ghost use Rattle.cx_scopes.specs.Arguments.{ArgsKnown, NamesKnown, RowsKnown, associated, by_args_answer, class_space, class_spaces, enum_space, functions_in, is_of_scope, listed, named_space, type_levels, type_spaces, with_spaces};
+ghost use Rattle.cx_scopes.specs.Arguments.{ArgsKnown, NamesKnown, associated, by_args_answer, class_space, class_spaces, enum_space, functions_in, is_of_scope, listed, named_space, type_spaces, with_spaces};
 
 use crate::kinds::{Entity, Found, LookAnswer, ScopeId};
 use crate::scopes::Scopes;
@@ -12,8 +13,13 @@ use cx_base::{List, Text};
 use cx_type_defs::{ClassId, EnumId, TypeId, TypeKind};
 use cx_types::Types;
 
-/// No type is deeper.
-const TYPE_LEVELS: u32 = 512;
+/// How many types a chain of pointers and arrays has at most.
+#[tactic(auto, unfolding(cx_type_defs::specs::Levels::most_steps, cx_type_defs::specs::Questions::most_levels))]
+fn most_steps() -> u32
+    ensures { result ≡ most_steps }
+{
+    513
+}
 
 fn is_of(place: ScopeId, kind: TypeKind) -> bool
     ensures { result ≡ is_of_scope place kind }
@@ -108,13 +114,13 @@ impl Scopes {
     ) -> Result<(), LookAnswer>
         requires arg { id.0 < length types.now.rows }
         requires names { NamesKnown self.now types.now }
-        requires rows { RowsKnown types.now }
         ensures ok { OnOk result (spaces.new ≡ with_spaces spaces.old (type_spaces self.now types.now levels id)) }
         ensures memory { IfErr result (λ e. e ≡ LookAnswer.Memory) }
     {
         if levels == 0 {
             return Ok(());
         }
+        types.sound();
         match types.row(id).kind {
             TypeKind::Class(class) => self.add_class(types, self.classes.len(), class, spaces),
             TypeKind::Enum(id) => add_if(self.enum_space(types, id), spaces),
@@ -128,13 +134,12 @@ impl Scopes {
     fn associated(&self, types: &Types, args: &[TypeId]) -> Result<SpaceSet, LookAnswer>
         requires args { ArgsKnown types.now args.now }
         requires names { NamesKnown self.now types.now }
-        requires rows { RowsKnown types.now }
         ensures ok { IfOk result (λ spaces. spaces ≡ associated self.now types.now args.now) }
         ensures memory { IfErr result (λ e. e ≡ LookAnswer.Memory) }
     {
         let mut spaces = SpaceSet::new(self.alloc);
         for arg in args {
-            self.add_type(types, TYPE_LEVELS, *arg, &mut spaces)?;
+            self.add_type(types, most_steps(), *arg, &mut spaces)?;
         }
         Ok(spaces)
     }
@@ -175,7 +180,7 @@ impl Scopes {
     /// enumeration, through pointers and array elements too: the one around the scope of the class or enumeration where
     /// that was entered, else the one around its first declaration. `Unknown` exactly where there is no function.
     ///
-    /// It asks that the arguments, the types that declarations name, and what these are made of are types of `types`.
+    /// It asks that the arguments and the types that declarations name are types of `types`.
     pub fn find_by_args(
         &self,
         types: &Types,
@@ -184,7 +189,6 @@ impl Scopes {
     ) -> Result<Found, LookAnswer>
         requires args { ArgsKnown types.now args.now }
         requires names { NamesKnown self.now types.now }
-        requires rows { RowsKnown types.now }
         ensures { Answers (by_args_answer self.now types.now name.now args.now) result }
     {
         let spaces = self.associated(types, args.as_slice())?;

@@ -40,6 +40,17 @@ pub enum Entity {
     Space(ScopeId),
 }
 
+/// Which meanings a lookup counts.
+#[derive(Clone, Copy)]
+pub enum Sought {
+    /// Each meaning ([basic.lookup.unqual]).
+    Meaning,
+    /// Namespaces and types alone, as before `::` ([basic.lookup.qual]).
+    Qualifier,
+    /// What no class has, as for the functions of an operator ([over.match.oper]).
+    NonMember,
+}
+
 /// What a lookup finds, in order of declaration.
 pub type Found = List<Entity>;
 

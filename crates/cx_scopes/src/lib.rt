@@ -2,6 +2,7 @@
 #![tactic(auto)]
 
 mod arguments;
+mod candidates;
 mod entered;
 mod kept;
 mod kinds;
@@ -12,9 +13,11 @@ mod spaces;
 mod steps;
 mod table;
 mod tables;
-#[cfg(test)]
-mod tests;
 
-pub use kinds::{Entity, Found, LookAnswer, ScopeId, ScopeKind};
-pub use laws::{declarations_stay, declared_names_are_found, types_stay_known};
+pub use candidates::unite;
+pub use kinds::{Entity, Found, LookAnswer, ScopeId, ScopeKind, Sought};
+pub use laws::{
+    candidates_are_a_set, declarations_stay, declared_names_are_found, lookups_in_other_words,
+    scopes_name_what_is, scopes_stay_nested,
+};
 pub use scopes::Scopes;

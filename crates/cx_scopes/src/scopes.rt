@@ -79,15 +79,22 @@ impl Scopes {
         }
     }
 
-    /// The innermost namespace that is entered.
+    /// The number of the innermost namespace that is entered.
     pub(crate) fn space_around(&self) -> u32
         ensures { result ≡ space_around self.now }
     {
         space_around(self.entered.as_slice())
     }
 
-    /// The present scope, if it is a namespace, class or enumeration.
-    pub(crate) fn place(&self) -> Option<ScopeId>
+    /// The innermost namespace that is entered.
+    pub fn innermost_space(&self) -> ScopeId
+        ensures { result ≡ ScopeId.Space (space_around self.now) }
+    {
+        ScopeId::Space(self.space_around())
+    }
+
+    /// The present scope, if it is a namespace, class or enumeration; None in a function or block.
+    pub fn place(&self) -> Option<ScopeId>
         ensures { result ≡ place_of self.now.entered }
     {
         place(self.entered.as_slice())
@@ -100,8 +107,8 @@ impl Scopes {
         self.tables.meanings(place, name)
     }
 
-    /// The direct bases that a class's scope keeps.
-    pub(crate) fn bases_of(&self, class: ClassId) -> &[ClassId]
+    /// The direct bases that a class's scope keeps, in order; a class that was never entered has none.
+    pub fn bases_of(&self, class: ClassId) -> &[ClassId]
         ensures { result.now ≡ bases_of self.now class }
     {
         match self.classes.get(&class) {

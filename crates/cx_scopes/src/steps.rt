@@ -2,7 +2,7 @@
 ghost use Rattle.std.specs.Prelude.{◌≡◌, ◌-◌, ◌^◌, ◌<◌, [], Some, None, Ok, Err, OnOk, OnErr, IfErr};
 ghost use Rattle.cx_scopes.specs.Names.{same_entity, stand_together, is_function, may_join, is_among};
 ghost use Rattle.cx_scopes.specs.Scopes.{place_of, space_around};
-ghost use Rattle.cx_scopes.specs.Steps.{present_meanings, declared, joined_to, with_declaration, with_entered, entered_with, space_entered, HasRoom};
+ghost use Rattle.cx_scopes.specs.Steps.{present_meanings, own_meanings, declared, declared_at, declared_in_space, with_declaration, with_entered, entered_with, space_entered, space_entered_by, HasRoom, StandsInSpace};
 ghost use Rattle.cx_scopes.specs.Lookup.{Refuses};
 
 use crate::entered::{add_own, new_scope};
@@ -38,23 +38,33 @@ fn joins(entity: Entity, meanings: &[Entity]) -> bool
     meanings.iter().all(|other| stands_beside(entity, *other))
 }
 
-fn is_one_of(entity: Entity, meanings: &[Entity]) -> bool
+/// Whether it is one of them.
+pub fn is_one_of(entity: Entity, meanings: &[Entity]) -> bool
     ensures { result ≡ is_among entity meanings.now }
 {
     meanings.iter().any(|other| entity == *other)
 }
 
 impl Scopes {
-    fn own_meanings(&self, name: &[u8]) -> &[Entity]
-        ensures { result.now ≡ present_meanings self.now name.now }
+    /// What the name means in a place, or among the innermost scope's own names, bases aside.
+    fn own_meanings(&self, place: Option<ScopeId>, name: &[u8]) -> &[Entity]
+        ensures { result.now ≡ own_meanings place self.now.entered self.now name.now }
     {
-        if let Some(place) = self.place() {
+        if let Some(place) = place {
             return self.meanings_at(place, name);
         }
         match self.entered.last() {
             Some(last) => last.own.meanings(name),
             None => &[],
         }
+    }
+
+    /// What the name means in the present scope alone, in order of declaration: neither the scopes around it nor the
+    /// bases of a class are looked into ([basic.scope.scope]).
+    pub fn present_meanings(&self, name: &Text) -> &[Entity]
+        ensures { result.now ≡ present_meanings self.now name.now }
+    {
+        self.own_meanings(self.place(), name.as_slice())
     }
 
     /// Declares a name in the present scope ([basic.scope.scope]). It answers `Redeclared` exactly where the scope has
@@ -65,22 +75,47 @@ impl Scopes {
         ensures refused { IfErr result (Refuses (declared self.old name.now entity)) }
         ensures err { OnErr result (self.new ≡ self.old) }
     {
-        let meanings = self.own_meanings(name.as_slice());
+        self.declare_at(self.place(), name, entity)
+    }
+
+    /// Declares a name in the innermost namespace, also from inside a class, function or block, as `struct S* p;` does
+    /// for an `S` that isn't declared ([basic.scope.pdecl]). The answers are those of `declare`.
+    pub fn declare_in_space(&mut self, name: &Text, entity: Entity) -> Result<(), LookAnswer>
+        ensures ok { OnOk result (declared_in_space self.old name.now entity ≡ Ok self.new) }
+        ensures refused { IfErr result (Refuses (declared_in_space self.old name.now entity)) }
+        ensures err { OnErr result (self.new ≡ self.old) }
+    {
+        self.declare_at(Some(self.innermost_space()), name, entity)
+    }
+
+    fn declare_at(
+        &mut self,
+        place: Option<ScopeId>,
+        name: &Text,
+        entity: Entity,
+    ) -> Result<(), LookAnswer>
+        requires { place ≡ None → place_of self.old.entered ≡ None }
+        ensures ok { OnOk result (declared_at place self.old name.now entity ≡ Ok self.new) }
+        ensures refused { IfErr result (Refuses (declared_at place self.old name.now entity)) }
+        ensures err { OnErr result (self.new ≡ self.old) }
+    {
+        let meanings = self.own_meanings(place, name.as_slice());
         if !joins(entity, meanings) {
             return Err(LookAnswer::Redeclared);
         }
         if is_one_of(entity, meanings) {
             return Ok(());
         }
-        self.add(name.as_slice(), entity)
+        self.add(place, name.as_slice(), entity)
     }
 
-    fn add(&mut self, name: &[u8], entity: Entity) -> Result<(), LookAnswer>
-        ensures ok { OnOk result (self.new ≡ with_declaration (place_of self.old.entered) self.old name.now entity) }
+    fn add(&mut self, place: Option<ScopeId>, name: &[u8], entity: Entity) -> Result<(), LookAnswer>
+        requires { place ≡ None → place_of self.old.entered ≡ None }
+        ensures ok { OnOk result (self.new ≡ with_declaration place self.old name.now entity) }
         ensures memory { IfErr result (λ e. e ≡ LookAnswer.Memory) }
         ensures err { OnErr result (self.new ≡ self.old) }
     {
-        match self.place() {
+        match place {
             Some(place) => self.add_at(place, name, entity),
             None => self.add_within(name, entity),
         }
@@ -112,14 +147,15 @@ impl Scopes {
         }
     }
 
-    /// Enters a scope. A namespace is sought by its name in the innermost namespace: where the name has no meaning
-    /// there, the next number is drawn and the name is declared as that namespace; where it means a namespace, that
-    /// one is gone on with; else the answer is `Redeclared` ([basic.scope.namespace], [namespace.def]). A class or
-    /// enumeration that was entered before is gone on with, and a class keeps the bases with which it was entered
-    /// first ([basic.scope.class], [basic.scope.enum]). A function's or block's scope is new each time
-    /// ([basic.scope.param], [basic.scope.block]). A refusal changes nothing.
+    /// Enters a scope. A namespace is entered from a namespace, in which it is sought by its name: where the name has
+    /// no meaning there, the next number is drawn and the name is declared as that namespace; where it means a
+    /// namespace, that one is gone on with; else the answer is `Redeclared` ([basic.scope.namespace],
+    /// [namespace.def]). A class or enumeration that was entered before is gone on with, and a class keeps the bases
+    /// with which it was entered first ([basic.scope.class], [basic.scope.enum]). A function's or block's scope is new
+    /// each time ([basic.scope.param], [basic.scope.block]). A refusal changes nothing.
     pub fn enter(&mut self, kind: ScopeKind) -> Result<(), LookAnswer>
-        requires { HasRoom self.old kind }
+        requires room { HasRoom self.old kind }
+        requires stands { StandsInSpace self.old kind }
         ensures ok { OnOk result (entered_with self.old kind ≡ Ok self.new) }
         ensures refused { IfErr result (Refuses (entered_with self.old kind)) }
         ensures err { OnErr result (self.new ≡ self.old) }
@@ -135,6 +171,18 @@ impl Scopes {
             ),
             ScopeKind::Block => self.push(ScopeKind::Block, None, self.space_around()),
         }
+    }
+
+    /// Enters a namespace by its number, from wherever one stands, as a definition of one of its functions does
+    /// ([namespace.memdef]). A refusal changes nothing.
+    pub fn enter_known_space(&mut self, name: Text, space: u32) -> Result<(), LookAnswer>
+        requires { space < self.old.spaces }
+        ensures ok { OnOk result (self.new ≡ space_entered_by self.old name space) }
+        ensures memory { IfErr result (λ e. e ≡ LookAnswer.Memory) }
+        ensures err { OnErr result (self.new ≡ self.old) }
+    {
+        let scope = Some(ScopeId::Space(space));
+        self.push(ScopeKind::Namespace(name), scope, space)
     }
 
     fn enter_space(&mut self, name: Text) -> Result<(), LookAnswer>

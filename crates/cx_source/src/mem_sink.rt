@@ -1,8 +1,8 @@
 ghost use Rattle.std.specs.Prelude.{◌≡◌, ◌⊎◌, ◌+◌, ◌-◌, ◌≤◌, ◌<◌, ◌↔◌, [], length, min, Some, IfOk, IsErr, OnOk, Contains};
 ghost use Rattle.std.specs.Io.{WritesAtMost};
 ghost use Rattle.std.specs.Io.KnownBytes.{WriteAppends};
-ghost use Rattle.cx_source.specs.Causes.{HasCause};
-ghost use Rattle.cx_source.specs.InMemory.{next_count, at_least_one};
+ghost use Rattle.cx_source.specs.Causes.{HasCause, next_count};
+ghost use Rattle.cx_source.specs.InMemory.{at_least_one};
 
 use crate::{Failed, Sink};
 use cx_base::Memory;
@@ -75,12 +75,12 @@ impl Sink for MemSink {
         ensures bytes { WriteAppends (Some self.old.written) (Some self.new.written) result piece.now }
         ensures takes { IfOk result (λ n. 0 < length piece.now → 0 < n) }
         ensures cause { HasCause self.old.faults self.new.faults result }
-        ensures one { self.new.calls ≤ self.old.calls + 1 }
+        ensures no_fault { OnOk result (self.new.faults ≡ self.old.faults) }
+        ensures one { self.new.calls ≡ next_count self.old.calls }
 
         ensures fails { IsErr result ↔ ((self.old.room ≡ length self.old.written) ⊎ Contains self.old.failing (next_count self.old.calls)) }
         ensures exact { IfOk result (λ n. n ≡ min (min (at_least_one self.old.piece) (self.old.room - length self.old.written)) (length piece.now)) }
-        ensures calls { self.new.calls ≡ next_count self.old.calls }
-        ensures no_fault { OnOk result (self.new.faults ≡ self.old.faults) }
+        ensures kept { (self.new.room ≡ self.old.room) × (self.new.piece ≡ self.old.piece) × (self.new.failing ≡ self.old.failing) }
     {
         self.calls = self.calls.saturating_add(1);
         let left = self.room - self.bytes.len();

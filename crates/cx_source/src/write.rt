@@ -1,4 +1,4 @@
-ghost use Rattle.std.specs.Prelude.{◌+◌, ◌<◌, ◌≤◌, length, take, IfErr, OnOk};
+ghost use Rattle.std.specs.Prelude.{◌≡◌, ◌+◌, ◌<◌, ◌≤◌, length, take, IfErr, OnOk};
 ghost use Rattle.std.specs.Io.KnownBytes.{Appends};
 ghost use Rattle.cx_source.specs.Causes.{HasCause};
 
@@ -11,13 +11,15 @@ pub struct WriteFault {
     pub written: u64,
 }
 
-/// Writes all the bytes, or says how many went out before a write failed.
+/// Writes all the bytes, or says how many went out before a write failed. Each write takes a byte at least or is
+/// the last.
 pub fn write_all<K: Sink>(sink: &mut K, bytes: &[u8]) -> Result<(), WriteFault>
     ensures ok { OnOk result (Appends (K.written sink.old) (K.written sink.new) bytes.now) }
     ensures prefix { IfErr result (λ e. Appends (K.written sink.old) (K.written sink.new) (take e.written bytes.now)) }
     ensures short { IfErr result (λ e. e.written < length bytes.now) }
     ensures cause { HasCause (K.faults sink.old) (K.faults sink.new) result }
-    ensures writes { K.writes sink.new ≤ K.writes sink.old + (length bytes.now + 1) }
+    ensures no_fault { OnOk result (K.faults sink.new ≡ K.faults sink.old) }
+    ensures writes { K.writes sink.new ≤ K.writes sink.old + length bytes.now }
 {
     let mut at = 0usize;
     'pieces: while at < bytes.len() {

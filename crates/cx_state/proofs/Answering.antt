@@ -14,12 +14,13 @@ use Rattle.cx_type_defs.specs.Tables.{Tables, Grows, body_at, field_of}
 use Rattle.cx_type_defs.specs.Questions.{OfType, is_complete}
 use Rattle.cx_type_defs.proofs.Lists.{some_inj, option_and_then-some}
 use Rattle.cx_type_defs.proofs.Looking.{asked-keeps}
-use Rattle.cx_state.specs.Objects.{Path, put, same_step, same_path, Object, Objects}
+use Rattle.cx_state.specs.Objects.{Path, Leaf, put, same_step, same_path, Object, Objects}
 use Rattle.cx_state.specs.Places.{elements, row_part, row_below, root_row, spot, index_row, row_of}
 use Rattle.cx_state.specs.Conditions as on
 use Rattle.cx_state.specs.Steps as steps
 use Rattle.cx_state.specs.Pointers as pointers
 use Rattle.cx_state.specs.Forms.{Fit, Knows}
+use Rattle.cx_state.specs.Asked.{NamesMember}
 use Rattle.cx_state.proofs.PartsComplete.{member-complete}
 use Rattle.cx_state.proofs.Stepped.{member_tree-is}
 use Rattle.cx_state.proofs.Complete.{is_some-true, complete-new}
@@ -166,6 +167,13 @@ is-known t u g os p e = let r = is_some-true (row_of t os p) e in known t u g os
 -- what depends on the tables by its rule alone
 pub rule-stays : (t u : Tables) → Grows t u → (os : Objects) → Fit t os → (p : Path) → Knows t os p → {A : Type 0} (a : on.Access) (x : A) → steps.unless (on.broken u os p a) x ≡ steps.unless (on.broken t os p a) x
 rule-stays t u g os h p e a x = stays t u g os p (is-known t u g os p e) h a x
+
+pub write-stays : (t u : Tables) → Grows t u → (os : Objects) → Fit t os → (p : Path) → Knows t os p → (w : steps.Write) → NamesMember t os p w → steps.write u os p w ≡ steps.write t os p w
+write-stays t u g os h p e (steps.Init v) m = rule-stays t u g os h p e on.Init (put (λ _. Leaf v) os p)
+write-stays t u g os h p e (steps.Store v) m = rule-stays t u g os h p e on.Store (put (λ _. Leaf v) os p)
+write-stays t u g os h p e (steps.Advance to) m = rule-stays t u g os h p e (on.Advance to) (put (steps.with_phase to) os p)
+write-stays t u g os h p e (steps.Activate k alive) m = activate-stays t u g os p (known t u g os p m.row m.is_row) h k alive m.row m.class m.field m.is_row m.is_class m.is_field
+write-stays t u g os h p e steps.Deactivate m = rule-stays t u g os h p e on.Activate (put steps.deactivated os p)
 
 pub Knows-grows : (t u : Tables) → Grows t u → (os : Objects) (p : Path) → Knows t os p → Knows u os p
 Knows-grows t u g os p e = let r = is_some-true (row_of t os p) e in ap is_some (row_of-grows t u g os p r.0 r.1)

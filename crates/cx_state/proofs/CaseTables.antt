@@ -26,7 +26,7 @@ use Rattle.cx_state.specs.declared.kind.Phase.TheVariants as phase
 use Rattle.cx_state.specs.declared.kind.Scalar.{Scalar}
 use Rattle.cx_state.specs.declared.kind.Scalar.TheVariants as scalar
 use Rattle.cx_state.specs.Objects.{Path, Tree, Object, Objects}
-use Rattle.cx_state.specs.Steps.{activate, load, init, store, release, advance, to_elem, outer, dynamic_class}
+use Rattle.cx_state.specs.Steps.{activate, deactivate, load, init, store, release, advance, to_elem, outer, dynamic_class}
 use Rattle.cx_state.specs.Pointers.{add, equal, less, distance}
 use Rattle.cx_state.specs.Counts.{Request, make}
 
@@ -229,6 +229,9 @@ stores ss n = λ os. store sample os (place ss) (whole_number n)
 
 abbrev pub activates : List Step → ℕ → Move
 activates ss m = λ os. activate sample os (place ss) m true
+
+abbrev pub deactivates : List Step → Move
+deactivates ss = λ os. deactivate sample os (place ss)
 
 abbrev pub advances : List Step → Phase → Move
 advances ss to = λ os. advance sample os (place ss) to

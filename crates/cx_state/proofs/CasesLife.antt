@@ -229,6 +229,16 @@ read_opaque : ask (loads (place [])) (after (makes (born birth.Opaque int_type) 
 unfolding asked looked most_levels
 read_opaque = refl
 
+-- and tells nothing of its active members and lifetimes: a call on a member that isn't active, in an unborn class
+call_opaque : call_on sample (wreck false birth.Opaque wrong_member ∷ []) (place member) ≡ Ok tt
+unfolding asked looked most_levels
+call_opaque = refl
+
+-- the same call on one that may be read
+call_usable : call_on sample (wreck false birth.Usable wrong_member ∷ []) (place member) ≡ Err rule.InactiveMember
+unfolding asked looked most_levels
+call_usable = refl
+
 -- an object that is settled as usable is read and not written
 settled_read : ask (λ os. load sample (settle os (place []) birth.Usable) (place [])) (after (makes (of_type int_type) ∷ inits [] 3 ∷ [])) ≡ Ok (whole_number 3)
 unfolding asked looked most_levels

@@ -5,9 +5,10 @@ use Rattle.cx_type_defs.specs.Questions.{asked, looked, most_levels}
 use Rattle.cx_state.specs.declared.kind.Scalar.TheVariants as scalar
 use Rattle.cx_state.specs.declared.kind.Phase.TheVariants as phase
 use Rattle.cx_state.specs.Objects.{Leaf, Class, Union, Active, End, More}
-use Rattle.cx_state.specs.Steps.{active, activate}
+use Rattle.cx_state.specs.Steps.{active, activate, deactivate}
+use Rattle.cx_state.specs.declared.kind.Birth.TheVariants as birth
 use Rattle.cx_state.specs.Counts.{next_place}
-use Rattle.cx_state.proofs.CaseTables.{sample, after, makes, ask, of_type, place, in_object, field, whole_number, inner_union, holder, either, inits, stores, activates, begins, ends, releases, trees_of, loads}
+use Rattle.cx_state.proofs.CaseTables.{sample, after, makes, ask, of_type, place, in_object, field, whole_number, inner_union, holder, either, inits, born, past, stores, activates, deactivates, begins, ends, releases, trees_of, loads}
 
 -- union V { int w; int x; };
 
@@ -124,3 +125,60 @@ ended_member = refl
 new_after_end : ask trees_of (after (makes (of_type either) ∷ activates [] 0 ∷ stores (field 0 ∷ field 1 ∷ []) 5 ∷ ends (field 0 ∷ []) ∷ activates [] 0 ∷ [])) ≡ Ok (Active 0 (Class phase.Alive End (More (Leaf scalar.Indeterminate) (More (Leaf scalar.Indeterminate) End))) ∷ [])
 unfolding asked looked most_levels
 new_after_end = refl
+
+-- a union that loses its active member: `union V { int w; int x; } a, b; a.x = 7; a = b;`, where `b` has none
+
+-- it has none
+none_left : ask trees_of (after (makes (of_type inner_union) ∷ activates [] 1 ∷ stores (field 1 ∷ []) 7 ∷ deactivates [] ∷ [])) ≡ Ok (Union ∷ [])
+unfolding asked looked most_levels
+none_left = refl
+
+-- and none is told
+none_left_told : ask (λ os. active sample os (place [])) (after (makes (of_type inner_union) ∷ activates [] 1 ∷ stores (field 1 ∷ []) 7 ∷ deactivates [] ∷ [])) ≡ Ok None
+unfolding asked looked most_levels
+none_left_told = refl
+
+-- nothing is read there
+none_left_read : ask (loads (place (field 1 ∷ []))) (after (makes (of_type inner_union) ∷ activates [] 1 ∷ stores (field 1 ∷ []) 7 ∷ deactivates [] ∷ [])) ≡ Err rule.InactiveMember
+unfolding asked looked most_levels
+none_left_read = refl
+
+-- the member activated once more is new
+new_after_none : ask (loads (place (field 1 ∷ []))) (after (makes (of_type inner_union) ∷ activates [] 1 ∷ stores (field 1 ∷ []) 7 ∷ deactivates [] ∷ activates [] 1 ∷ [])) ≡ Err rule.Indeterminate
+unfolding asked looked most_levels
+new_after_none = refl
+
+-- a union that has none stays so
+none_twice : after (makes (of_type inner_union) ∷ deactivates [] ∷ []) ≡ after (makes (of_type inner_union) ∷ [])
+unfolding asked looked most_levels
+none_twice = refl
+
+-- the union in a union loses its member, and the outer one keeps it
+inner_none : ask trees_of (after (makes (of_type holder) ∷ activates (field 0 ∷ []) 1 ∷ activates (field 0 ∷ field 1 ∷ []) 0 ∷ deactivates (field 0 ∷ field 1 ∷ []) ∷ [])) ≡ Ok (Class phase.Unborn End (More (Active 1 Union) End) ∷ [])
+unfolding asked looked most_levels
+inner_none = refl
+
+-- a released one is dangling
+deactivate_released : after (makes (of_type inner_union) ∷ releases 0 ∷ deactivates [] ∷ []) ≡ Err rule.Dangling
+unfolding asked looked most_levels
+deactivate_released = refl
+
+-- nothing stands past the end
+deactivate_past : ask (λ os. deactivate sample os (past [])) (after (makes (born birth.Usable inner_union) ∷ [])) ≡ Err rule.PastEnd
+unfolding asked looked most_levels
+deactivate_past = refl
+
+-- one from before the evaluation is not changed
+deactivate_outside : ask (λ os. deactivate sample os (place (field 0 ∷ field 1 ∷ []))) (after (makes (born birth.Usable holder) ∷ [])) ≡ Err rule.OutsideWrite
+unfolding asked looked most_levels
+deactivate_outside = refl
+
+-- nor one that is no active member
+deactivate_inactive : after (makes (of_type holder) ∷ activates (field 0 ∷ []) 0 ∷ deactivates (field 0 ∷ field 1 ∷ []) ∷ []) ≡ Err rule.InactiveMember
+unfolding asked looked most_levels
+deactivate_inactive = refl
+
+-- lifetimes are not asked
+deactivate_unborn : ask trees_of (after (makes (of_type holder) ∷ activates (field 0 ∷ []) 0 ∷ deactivates (field 0 ∷ []) ∷ [])) ≡ Ok (Class phase.Unborn End (More Union End) ∷ [])
+unfolding asked looked most_levels
+deactivate_unborn = refl

@@ -10,11 +10,9 @@ use Rattle.cx_type_defs.specs.Tables.{Tables, no_types, changed_at}
 use Rattle.cx_type_defs.proofs.Lists.{some_inj}
 use Rattle.std.proofs.lemmas.List.Sums.{sum_by-append}
 use Rattle.cx_state.specs.declared.kind.Birth.{Birth}
-use Rattle.cx_state.specs.declared.kind.Phase.{Phase}
-use Rattle.cx_state.specs.declared.kind.Scalar.{Scalar}
 use Rattle.cx_state.specs.Objects.{Path, Tree, Object, Objects, put}
 use Rattle.cx_state.specs.Conditions as on
-use Rattle.cx_state.specs.Steps.{unless, init, store, advance, activate, given_up, release, settle, cut}
+use Rattle.cx_state.specs.Steps.{unless, given_up, release, settle, cut, Write, access_of, write}
 use Rattle.cx_state.specs.Counts.{Request, counts, new_object, cells_in, is_live, live_cells, make, next_place, SameCounts}
 use Rattle.cx_state.proofs.Paths.{changed_at-length, and-left, and-right, and-both}
 use Rattle.cx_state.proofs.Known.{unless-ok, make-ok}
@@ -177,17 +175,8 @@ same_counts t f h os i = record { as_many = changed_at-length f os i; as_large =
 pub put-counts : (t : Tables) (os : Objects) (f : Tree → Tree) (p : Path) → SameCounts t os (put f os p)
 put-counts t os f p = same_counts t _ (λ o. refl) os p.object
 
-pub init-counts : (t : Tables) (os now : Objects) (p : Path) (v : Scalar Path) → init t os p v ≡ Ok now → SameCounts t os now
-init-counts t os now p v e = let c = unless-ok (on.broken t os p on.Init) _ now e in subst (SameCounts t os) c.1 (put-counts t os _ p)
-
-pub store-counts : (t : Tables) (os now : Objects) (p : Path) (v : Scalar Path) → store t os p v ≡ Ok now → SameCounts t os now
-store-counts t os now p v e = let c = unless-ok (on.broken t os p on.Store) _ now e in subst (SameCounts t os) c.1 (put-counts t os _ p)
-
-pub advance-counts : (t : Tables) (os now : Objects) (p : Path) (to : Phase) → advance t os p to ≡ Ok now → SameCounts t os now
-advance-counts t os now p to e = let c = unless-ok (on.broken t os p (on.Advance to)) _ now e in subst (SameCounts t os) c.1 (put-counts t os _ p)
-
-pub activate-counts : (t : Tables) (os now : Objects) (p : Path) (m : ℕ) (alive : Bool) → activate t os p m alive ≡ Ok now → SameCounts t os now
-activate-counts t os now p m alive e = let c = unless-ok (on.broken t os p on.Activate) _ now e in subst (SameCounts t os) c.1 (put-counts t os _ p)
+pub write-counts : (t : Tables) (os now : Objects) (p : Path) (w : Write) → write t os p w ≡ Ok now → SameCounts t os now
+write-counts t os now p w e = let c = unless-ok (on.broken t os p (access_of w)) _ now e in subst (SameCounts t os) c.1 (put-counts t os _ p)
 
 pub settle-counts : (t : Tables) (os : Objects) (p : Path) (b : Birth) → SameCounts t os (settle os p b)
 settle-counts t os p b = same_counts t _ (λ o. refl) os p.object

@@ -2,7 +2,7 @@
 use Rattle.std.proofs.Common.{◌≡◌, ℕ, zero, suc, ◌==◌, ◌<◌, ◌≤◌, Bool, true, false, ◌&&◌, ◌||◌, not, List, [], ◌∷◌, ◌++◌, length, take, Option, None, Some, Ok, inl, inr, refl, sym, ap, subst, ◌∙◌, slice_get, arith, eqb-true, eq-eqb, ne_eqb, length-append, length-take, if◌then◌else◌}
 use Rattle.std.specs.List.{list_any, find}
 use Rattle.std.specs.Prelude.{option_map, option_and_then}
-use Rattle.std.proofs.lemmas.Bool.{cases_Bool, not-false, or_parts, and_right}
+use Rattle.std.proofs.lemmas.Bool.{cases_Bool, not-false, or_parts, and_right, eqb-false}
 use Rattle.std.proofs.lemmas.Bool.Decides.{eqb_tells}
 use Rattle.std.proofs.lemmas.Option.{slice_get_past, slice_get_within}
 use Rattle.cx_base.specs.declared.rule.Rule.{Rule}
@@ -15,12 +15,11 @@ use Rattle.cx_type_defs.proofs.Lists.{some_inj, option_map-some, option_and_then
 use Rattle.cx_state.specs.declared.kind.Birth.{Birth}
 use Rattle.cx_state.specs.declared.kind.Birth.TheVariants as birth
 use Rattle.cx_state.specs.declared.kind.Phase.{Phase}
-use Rattle.cx_state.specs.declared.kind.Scalar.{Scalar}
 use Rattle.cx_state.specs.Objects.{Path, Tree, Trees, Leaf, Row, Class, Union, Active, End, More, Object, Objects, tree_at, part, below, changed, at, put}
 use Rattle.cx_state.specs.Places.{row_of}
 use Rattle.cx_state.specs.Conditions as on
 use Rattle.cx_state.specs.Pointers.{is_dangling}
-use Rattle.cx_state.specs.Steps.{unless, init, store, advance, activate, release, settle, cut, member_of, member_tree, activated, begun, is_ended, with_phase, ended, all_ended, given_up, whole_path}
+use Rattle.cx_state.specs.Steps.{unless, advance, activate, deactivated, deactivate, release, settle, cut, member_of, member_tree, activated, begun, is_ended, with_phase, ended, all_ended, given_up, whole_path, Write, Init, Store, Advance, Activate, Deactivate, access_of, written, write}
 use Rattle.cx_state.specs.Counts.{Request, new_object, passes_limit, limit_order, make, next_place}
 use Rattle.cx_state.specs.Elsewhere.{within, is_over, Elsewhere, OneObject}
 use Rattle.cx_state.proofs.Paths.{and-left, and_then-map, and_then-same, changed_at-here, changed_at-other, changed_at-length, with_changed, put-object, put-others, put-length, at-put, at-put_aside, put-still, at-within}
@@ -51,26 +50,11 @@ pub at-new_some : (f : Tree → Tree) (os : Objects) (p : Path) (o : Option Rule
 at-new_some f os p o new x e a = at-new f os p o new e ∙ ap (option_map f) a
 
 module _ (t : Tables) (os : Objects) (p : Path) where
-  pub init-stays : (v : Scalar Path) (new : Objects) → init t os p v ≡ Ok new → Elsewhere os new p
-  init-stays v new e = put-stays (λ _. Leaf v) os p (on.broken t os p on.Init) new e
+  pub write-stays : (w : Write) (new : Objects) → write t os p w ≡ Ok new → Elsewhere os new p
+  write-stays w new e = put-stays (written t (row_of t os p) w) os p (on.broken t os p (access_of w)) new e
 
-  pub store-stays : (v : Scalar Path) (new : Objects) → store t os p v ≡ Ok new → Elsewhere os new p
-  store-stays v new e = put-stays (λ _. Leaf v) os p (on.broken t os p on.Store) new e
-
-  pub advance-stays : (to : Phase) (new : Objects) → advance t os p to ≡ Ok new → Elsewhere os new p
-  advance-stays to new e = put-stays (with_phase to) os p (on.broken t os p (on.Advance to)) new e
-
-  pub activate-stays : (m : ℕ) (alive : Bool) (new : Objects) → activate t os p m alive ≡ Ok new → Elsewhere os new p
-  activate-stays m alive new e = put-stays (activated m (member_tree t (begun alive) m (row_of t os p))) os p (on.broken t os p on.Activate) new e
-
-  pub init-there : (v : Scalar Path) (new : Objects) (x : Tree) → init t os p v ≡ Ok new → at os p ≡ Some x → at new p ≡ Some (Leaf v)
-  init-there v new x e a = at-new_some (λ _. Leaf v) os p (on.broken t os p on.Init) new x e a
-
-  pub store-there : (v : Scalar Path) (new : Objects) (x : Tree) → store t os p v ≡ Ok new → at os p ≡ Some x → at new p ≡ Some (Leaf v)
-  store-there v new x e a = at-new_some (λ _. Leaf v) os p (on.broken t os p on.Store) new x e a
-
-  pub advance-there : (to from : Phase) (new : Objects) (bases members : Trees) → advance t os p to ≡ Ok new → at os p ≡ Some (Class from bases members) → at new p ≡ Some (Class to bases members)
-  advance-there to from new bases members e a = at-new_some (with_phase to) os p (on.broken t os p (on.Advance to)) new (Class from bases members) e a
+  pub write-there : (w : Write) (new : Objects) (x : Tree) → write t os p w ≡ Ok new → at os p ≡ Some x → at new p ≡ Some (written t (row_of t os p) w x)
+  write-there w new x e a = at-new_some (written t (row_of t os p) w) os p (on.broken t os p (access_of w)) new x e a
 
   -- the phase of a class and nothing of its parts
 
@@ -308,3 +292,38 @@ pub make-keeps : (t : Tables) (limits : Limits) (os : Objects) (r : Request) (ne
 make-keeps t limits os r new q e d =
     let w = released-some os q d in
     some-released new q w.0 (make-others t limits os r new e q.object (slice_get_within os q.object w.0 w.1) ∙ w.1) w.2
+
+-- no active member
+
+deactivated-none : (x : Tree) → on.is_union x ≡ true → deactivated x ≡ Union
+deactivated-none Union e = refl
+deactivated-none (Active k x) e = refl
+deactivated-none (Leaf v) e = absurd (cc)
+deactivated-none (Row xs) e = absurd (cc)
+deactivated-none (Class k bs ms) e = absurd (cc)
+
+pub deactivate-none : (t : Tables) (os : Objects) (p : Path) (new : Objects) (x : Tree) → deactivate t os p ≡ Ok new → at os p ≡ Some x → on.is_union x ≡ true → at new p ≡ Some Union
+deactivate-none t os p new x e a u = write-there t os p Deactivate new x e a ∙ ap Some (deactivated-none x u)
+
+pub deactivate-again : (t : Tables) (os : Objects) (p : Path) (new : Objects) → deactivate t os p ≡ Ok new → at os p ≡ Some Union → new ≡ os
+deactivate-again t os p new e a =
+    sym (unless-ok (on.broken t os p on.Activate) (put deactivated os p) new e).1
+    ∙ put-still deactivated os p (λ y f. let g : Union ≡ y = some_inj Union y (sym a ∙ f) in subst (λ z. deactivated z ≡ z) g refl)
+
+-- an object that wasn't made here
+
+made_here : (t : Tables) (os : Objects) (p : Path) (w : Write) (o : Object) → slice_get os p.object ≡ Some o → on.broken t os p (access_of w) ≡ None → not (on.is_here o.birth) ≡ false
+made_here t os p (Init v) o e b = broken-none t os p on.Init b o e 2 rule.Dangling (omega arith)
+made_here t os p (Store v) o e b = broken-none t os p on.Store b o e 2 rule.Dangling (omega arith)
+made_here t os p (Advance to) o e b = broken-none t os p (on.Advance to) b o e 2 rule.Dangling (omega arith)
+made_here t os p (Activate m alive) o e b = broken-none t os p on.Activate b o e 2 rule.Dangling (omega arith)
+made_here t os p Deactivate o e b = broken-none t os p on.Activate b o e 2 rule.Dangling (omega arith)
+
+pub write-before : (t : Tables) (os : Objects) (p : Path) (w : Write) (new : Objects) (i : ℕ) (o : Object) → slice_get os i ≡ Some o → on.is_here o.birth ≡ false → write t os p w ≡ Ok new → slice_get new i ≡ Some o
+write-before t os p w new i o e b a = elim (cases_Bool (i == p.object)) as (λ _. slice_get new i ≡ Some o) [
+  | inl same ↦ (let there : slice_get os p.object ≡ Some o = ap (slice_get os) (sym (eqb-true i p.object same)) ∙ e in
+      let none = (unless-ok (on.broken t os p (access_of w)) (put (written t (row_of t os p) w) os p) new a).0 in
+      let here : not (on.is_here o.birth) ≡ false = made_here t os p w o there none in
+      absurd (cc (here, ap not b)))
+  | inr other ↦ (write-stays t os p w new a).other_objects i (eqb-false i p.object other) ∙ e
+]

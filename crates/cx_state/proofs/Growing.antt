@@ -1,5 +1,5 @@
 -- Objects fit where the types grow, and places keep their types.
-use Rattle.std.proofs.Common.{◌≡◌, ℕ, zero, suc, ◌<◌, ◌≤◌, Bool, true, false, List, [], ◌∷◌, length, Option, None, Some, refl, sym, ap, subst, ◌∙◌, slice_get, arith, if◌then◌else◌}
+use Rattle.std.proofs.Common.{◌≡◌, ℕ, ◌<◌, ◌≤◌, Bool, true, false, List, [], ◌∷◌, length, Option, None, Some, inl, inr, refl, sym, ap, subst, ◌∙◌, slice_get, arith, if◌then◌else◌}
 use Rattle.std.specs.Prelude.{option_map, option_and_then, nat_lt, is_some, ◌==◌, ◌||◌}
 use Rattle.cx_type_defs.specs.declared.ids.Step.{Step}
 use Rattle.cx_type_defs.specs.declared.ids.Step.TheVariants as step
@@ -14,14 +14,15 @@ use Rattle.cx_type_defs.specs.declared.decl.ClassDecl.{ClassDecl}
 use Rattle.cx_type_defs.specs.declared.decl.ClassKey.{ClassKey}
 use Rattle.cx_type_defs.specs.declared.decl.ClassKey.TheVariants as key
 use Rattle.cx_type_defs.specs.Tables.{Tables, Grows, ClassGrows, body_at, base_of, field_of}
-use Rattle.cx_type_defs.specs.Questions.{OfType, most_levels, asked, extent_of, is_complete}
+use Rattle.cx_type_defs.specs.Questions.{OfType, asked, extent_of, is_complete}
 use Rattle.cx_type_defs.proofs.Lists.{some_inj, option_and_then-some, option_map-some, Along-at, Along-length}
 use Rattle.cx_type_defs.proofs.Looking.{row-grows, under_at-grows, Stays-some, asked-keeps}
 use Rattle.cx_state.specs.declared.kind.Scalar.{Scalar}
 use Rattle.cx_state.specs.declared.kind.Scalar.TheVariants as scalar
 use Rattle.cx_state.specs.Objects.{Path, Tree, Trees, Leaf, Row, Class, Union, Active, size, tree_at, part, below, Object, Objects}
 use Rattle.cx_state.specs.Places.{element, elements, base_row, row_part, row_below, whole_kind, root_row, Spot, spot, spot_row, index_row, row_of}
-use Rattle.cx_state.specs.Forms.{Both, Alike, IsPointee, Designates, MayHold, AllKnown, ClassForm, DeclForm, ScalarForm, RowForm, Form, TreeFits, ObjectFits, Fit}
+use Rattle.cx_state.specs.Alike.{Plain, Itself, PointerTo, ReferenceTo, ArrayOf, IsMadeOf, Is, Alike}
+use Rattle.cx_state.specs.Forms.{IsPointee, Designates, MayHold, AllKnown, ClassForm, DeclForm, ScalarForm, RowForm, Form, TreeFits, ObjectFits, Fit}
 use Rattle.cx_state.proofs.Fitting.{TreeFits-here, TreeFits-part, class-struct}
 use Rattle.cx_state.proofs.NewTrees.{where-true, body-known}
 use Rattle.cx_state.proofs.Complete.{is_some-true}
@@ -168,27 +169,21 @@ module _ (t u : Tables) (g : Grows t u) where
 
   -- forms stay
 
-  both-grow : (R S : TypeRow → TypeRow → Type 0) → ((a b : TypeRow) → R a b → S a b) → (x y v w : Option TypeRow) → ((a : TypeRow) → x ≡ Some a → v ≡ Some a) → ((b : TypeRow) → y ≡ Some b → w ≡ Some b) → Both R x y → Both S v w
-  both-grow R S h (Some a) (Some b) v w m n k = subst (λ z. Both S z w) (sym (m a refl)) (subst (λ z. Both S (Some a) z) (sym (n b refl)) (h a b k))
-  both-grow R S h (Some a) None v w m n k = absurd k
-  both-grow R S h None y v w m n k = absurd k
+  made_of-grows : (make : TypeId → TypeKind) (P Q : TypeKind → Type 0) → ((k : TypeKind) → P k → Q k) → (k : TypeKind) → IsMadeOf t make P k → IsMadeOf u make Q k
+  made_of-grows make P Q f k h = record { part = h.part; is_made = h.is_made; row = h.row; is_row = row-grows t u g h.part.0 h.row h.is_row; part_is = f h.row.kind h.part_is }
 
-  pub Alike-grows : (n : ℕ) (a b : TypeKind) → Alike t n a b → Alike u n a b
-  Alike-grows zero a b h = h
-  Alike-grows (suc n) (kind.Pointer a) (kind.Pointer b) h = both-grow (λ q r. Alike t n q.kind r.kind) (λ q r. Alike u n q.kind r.kind) (λ q r k. Alike-grows n q.kind r.kind k) (slice_get t.rows a.0) (slice_get t.rows b.0) (slice_get u.rows a.0) (slice_get u.rows b.0) (row-grows t u g a.0) (row-grows t u g b.0) h
-  Alike-grows (suc n) (kind.Reference a) (kind.Reference b) h = both-grow (λ q r. Alike t n q.kind r.kind) (λ q r. Alike u n q.kind r.kind) (λ q r k. Alike-grows n q.kind r.kind k) (slice_get t.rows a.0) (slice_get t.rows b.0) (slice_get u.rows a.0) (slice_get u.rows b.0) (row-grows t u g a.0) (row-grows t u g b.0) h
-  Alike-grows (suc n) (kind.Array a i) (kind.Array b j) h = (h.0, both-grow (λ q r. Alike t n q.kind r.kind) (λ q r. Alike u n q.kind r.kind) (λ q r k. Alike-grows n q.kind r.kind k) (slice_get t.rows a.0) (slice_get t.rows b.0) (slice_get u.rows a.0) (slice_get u.rows b.0) (row-grows t u g a.0) (row-grows t u g b.0) h.1)
-  Alike-grows (suc n) a b h = h
+  Is-grows : (p : Plain) (k : TypeKind) → Is t k p → Is u k p
+  Is-grows (Itself l) k h = h
+  Is-grows (PointerTo p) k h = made_of-grows kind.Pointer (λ q. Is t q p) (λ q. Is u q p) (λ q. Is-grows p q) k h
+  Is-grows (ReferenceTo p) k h = made_of-grows kind.Reference (λ q. Is t q p) (λ q. Is u q p) (λ q. Is-grows p q) k h
+  Is-grows (ArrayOf p n) k h = made_of-grows (λ of. kind.Array of n) (λ q. Is t q p) (λ q. Is u q p) (λ q. Is-grows p q) k h
+
+  pub Alike-grows : (a b : TypeKind) → Alike t a b → Alike u a b
+  Alike-grows a b h = record { plain = h.plain; left = Is-grows h.plain a h.left; right = Is-grows h.plain b h.right }
 
   IsPointee-grows : (to k : TypeKind) → IsPointee t to k → IsPointee u to k
-  IsPointee-grows kind.Void k h = tt
-  IsPointee-grows kind.Nullptr k h = Alike-grows most_levels kind.Nullptr k h
-  IsPointee-grows (kind.Int i) k h = Alike-grows most_levels (kind.Int i) k h
-  IsPointee-grows (kind.Enum i) k h = Alike-grows most_levels (kind.Enum i) k h
-  IsPointee-grows (kind.Pointer a) k h = Alike-grows most_levels (kind.Pointer a) k h
-  IsPointee-grows (kind.Reference a) k h = Alike-grows most_levels (kind.Reference a) k h
-  IsPointee-grows (kind.Array a n) k h = Alike-grows most_levels (kind.Array a n) k h
-  IsPointee-grows (kind.Class c) k h = Alike-grows most_levels (kind.Class c) k h
+  IsPointee-grows to k (inl e) = inl e
+  IsPointee-grows to k (inr h) = inr (Alike-grows to k h)
 
   pub Designates-grows : (os : Objects) (to : TypeId) (p : Path) → Designates t os to p → Designates u os to p
   Designates-grows os to p d = record { asked = d.asked; is_asked = row-grows t u g to.0 d.asked d.is_asked; found = d.found; is_found = row_of-grows os p d.found d.is_found; alike = IsPointee-grows d.asked.kind d.found.kind d.alike }

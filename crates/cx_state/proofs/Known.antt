@@ -21,13 +21,12 @@ use Rattle.cx_type_defs.specs.Tables.{Tables, no_types, base_of, field_of, chang
 use Rattle.cx_type_defs.proofs.Lists.{some_inj, option_and_then-some, option_map-some, slice_get-more, slice_get-last}
 use Rattle.std.proofs.lemmas.Option.{slice_get_cases}
 use Rattle.cx_state.specs.declared.kind.Birth.{Birth}
-use Rattle.cx_state.specs.declared.kind.Phase.{Phase}
 use Rattle.cx_state.specs.declared.kind.Scalar.{Scalar}
 use Rattle.cx_state.specs.declared.kind.Scalar.TheVariants as scalar
 use Rattle.cx_state.specs.Objects.{Path, Tree, Leaf, Row, Class, Union, Active, Object, Objects, below, at, put}
 use Rattle.cx_state.specs.Places.{element, base_row, kind_part, row_part, row_below, whole_kind, root_row, Spot, spot, elements, spot_row, row_of, is_place}
 use Rattle.cx_state.specs.Conditions as on
-use Rattle.cx_state.specs.Steps.{unless, deeper, to_field, to_base, ends_at, to_elem, scalar_of, load, init, store, advance, activate, given_up, release, settle, cut, whole_path, outer, with_place, dynamic_class}
+use Rattle.cx_state.specs.Steps.{unless, deeper, to_field, to_base, ends_at, to_elem, scalar_of, load, given_up, release, settle, cut, whole_path, outer, with_place, dynamic_class, Write, access_of, write}
 use Rattle.cx_state.specs.Pointers.{first_row, count_at, at_index, index_within, moved, is_dangling, add}
 use Rattle.cx_state.specs.Counts.{Request, new_object, passes_limit, limit_order, make, next_place}
 use Rattle.cx_state.specs.Forms.{MayHold, Designates, ClassForm, DeclForm, Form, Fit, Knows, KnowsIn}
@@ -76,17 +75,8 @@ put-knows t os f p q k = is_place-same t os (put f os p) q (row_of-put t f os p 
 unless-knows : (t : Tables) (b : Option Rule) (os changed now : Objects) (q : Path) → Knows t changed q → unless b changed ≡ Ok now → Knows t now q
 unless-knows t b os changed now q k e = subst (λ w. Knows t w q) (unless-ok b changed now e).1 k
 
-pub init-knows : (t : Tables) (os now : Objects) (p q : Path) (v : Scalar Path) → init t os p v ≡ Ok now → Knows t os q → Knows t now q
-init-knows t os now p q v e k = unless-knows t (on.broken t os p on.Init) os (put (λ _. Leaf v) os p) now q (put-knows t os (λ _. Leaf v) p q k) e
-
-pub store-knows : (t : Tables) (os now : Objects) (p q : Path) (v : Scalar Path) → store t os p v ≡ Ok now → Knows t os q → Knows t now q
-store-knows t os now p q v e k = unless-knows t (on.broken t os p on.Store) os (put (λ _. Leaf v) os p) now q (put-knows t os (λ _. Leaf v) p q k) e
-
-pub advance-knows : (t : Tables) (os now : Objects) (p q : Path) (to : Phase) → advance t os p to ≡ Ok now → Knows t os q → Knows t now q
-advance-knows t os now p q to e k = let c = unless-ok (on.broken t os p (on.Advance to)) _ now e in subst (λ w. Knows t w q) c.1 (put-knows t os _ p q k)
-
-pub activate-knows : (t : Tables) (os now : Objects) (p q : Path) (m : ℕ) (alive : Bool) → activate t os p m alive ≡ Ok now → Knows t os q → Knows t now q
-activate-knows t os now p q m alive e k = let c = unless-ok (on.broken t os p on.Activate) _ now e in subst (λ w. Knows t w q) c.1 (put-knows t os _ p q k)
+pub write-knows : (t : Tables) (os now : Objects) (p q : Path) (w : Write) → write t os p w ≡ Ok now → Knows t os q → Knows t now q
+write-knows t os now p q w e k = let c = unless-ok (on.broken t os p (access_of w)) _ now e in subst (λ w. Knows t w q) c.1 (put-knows t os _ p q k)
 
 pub release-knows : (t : Tables) (os now : Objects) (p q : Path) → release os p ≡ Ok now → Knows t os q → Knows t now q
 release-knows t os now p q e k =

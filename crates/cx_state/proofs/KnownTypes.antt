@@ -14,12 +14,10 @@ use Rattle.cx_type_defs.specs.declared.kind.TypeKind.TheVariants as kind
 use Rattle.cx_type_defs.specs.Tables.{Tables, no_types}
 use Rattle.cx_type_defs.proofs.Lists.{some_inj, option_and_then-some, option_map-some, slice_get-more}
 use Rattle.cx_state.specs.declared.kind.Birth.{Birth}
-use Rattle.cx_state.specs.declared.kind.Phase.{Phase}
-use Rattle.cx_state.specs.declared.kind.Scalar.{Scalar}
 use Rattle.cx_state.specs.Objects.{Path, Object, Objects, below}
 use Rattle.cx_state.specs.Places.{row_part, kind_part, row_below, root_row, Spot, spot, spot_row, row_of}
 use Rattle.cx_state.specs.Conditions as on
-use Rattle.cx_state.specs.Steps.{init, store, advance, activate, given_up, release, settle, cut, whole_path, outer, with_place, dynamic_class}
+use Rattle.cx_state.specs.Steps.{given_up, release, settle, cut, whole_path, outer, with_place, dynamic_class, Write, access_of, write}
 use Rattle.cx_state.specs.Pointers.{count_at, at_index, add}
 use Rattle.cx_state.specs.Counts.{Request, new_object, make}
 use Rattle.cx_state.specs.Forms.{Knows}
@@ -29,17 +27,8 @@ use Rattle.cx_state.proofs.Known.{unless-ok, known-row, known-object, row_of-cha
 
 -- steps leave the types
 
-pub init-types : (t : Tables) (os now : Objects) (p q : Path) (v : Scalar Path) → init t os p v ≡ Ok now → row_of t now q ≡ row_of t os q
-init-types t os now p q v e = let c = unless-ok (on.broken t os p on.Init) _ now e in subst (λ w. row_of t w q ≡ row_of t os q) c.1 (row_of-put t _ os p q)
-
-pub store-types : (t : Tables) (os now : Objects) (p q : Path) (v : Scalar Path) → store t os p v ≡ Ok now → row_of t now q ≡ row_of t os q
-store-types t os now p q v e = let c = unless-ok (on.broken t os p on.Store) _ now e in subst (λ w. row_of t w q ≡ row_of t os q) c.1 (row_of-put t _ os p q)
-
-pub advance-types : (t : Tables) (os now : Objects) (p q : Path) (to : Phase) → advance t os p to ≡ Ok now → row_of t now q ≡ row_of t os q
-advance-types t os now p q to e = let c = unless-ok (on.broken t os p (on.Advance to)) _ now e in subst (λ w. row_of t w q ≡ row_of t os q) c.1 (row_of-put t _ os p q)
-
-pub activate-types : (t : Tables) (os now : Objects) (p q : Path) (m : ℕ) (alive : Bool) → activate t os p m alive ≡ Ok now → row_of t now q ≡ row_of t os q
-activate-types t os now p q m alive e = let c = unless-ok (on.broken t os p on.Activate) _ now e in subst (λ w. row_of t w q ≡ row_of t os q) c.1 (row_of-put t _ os p q)
+pub write-types : (t : Tables) (os now : Objects) (p q : Path) (w : Write) → write t os p w ≡ Ok now → row_of t now q ≡ row_of t os q
+write-types t os now p q w e = let c = unless-ok (on.broken t os p (access_of w)) _ now e in subst (λ w. row_of t w q ≡ row_of t os q) c.1 (row_of-put t _ os p q)
 
 pub release-types : (t : Tables) (os now : Objects) (p q : Path) → release os p ≡ Ok now → row_of t now q ≡ row_of t os q
 release-types t os now p q e = let c = unless-ok (on.broken no_types os p on.Release) _ now e in subst (λ w. row_of t w q ≡ row_of t os q) c.1 (row_of-changed_at t given_up (λ o. refl) os p.object q)

@@ -16,6 +16,7 @@ pub mod CasesCompare
 pub mod CasesEnclosing
 pub mod CasesCounts
 pub mod CasesForms
+pub mod CasesCalls
 pub mod Outs
 pub mod Fitting
 pub mod Passing
@@ -24,6 +25,9 @@ pub mod NewTrees
 pub mod Written
 pub mod PartsComplete
 pub mod Stepped
+pub mod SameTypes
+pub mod Lasting
+pub mod Names
 pub mod EndedTrees
 pub mod Complete
 pub mod Making

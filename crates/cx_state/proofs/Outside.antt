@@ -1,5 +1,5 @@
 -- A change of what a path leads to changes no answer outside of it: no rule, and no value that is read.
-use Rattle.std.proofs.Common.{◌≡◌, ℕ, ◌==◌, Bool, true, false, ◌&&◌, ◌||◌, not, cond, List, [], ◌∷◌, map, Option, None, Some, Ok, is_some, inl, inr, All, refl, sym, ap, subst, ◌∙◌, slice_get, slice_index_or, unwrap_or, true≢false, arith, if◌then◌else◌}
+use Rattle.std.proofs.Common.{◌≡◌, ◌==◌, Bool, true, false, ◌&&◌, ◌||◌, not, cond, List, [], ◌∷◌, map, Option, None, Some, Ok, is_some, inl, inr, All, refl, sym, ap, subst, ◌∙◌, slice_get, slice_index_or, unwrap_or, true≢false, arith, if◌then◌else◌}
 use Rattle.std.specs.List.{list_any, find}
 use Rattle.std.specs.Prelude.{option_map, option_and_then}
 use Rattle.std.proofs.lemmas.Bool.{cases_Bool, not-true, not-false, or_parts}
@@ -17,11 +17,12 @@ use Rattle.cx_state.specs.declared.kind.Scalar.{Scalar}
 use Rattle.cx_state.specs.Objects.{Path, Tree, Leaf, Row, Class, Union, Active, End, Object, Objects, same_step, part, part_changed, below, changed, at, put}
 use Rattle.cx_state.specs.Places.{row_part, root_row, row_of}
 use Rattle.cx_state.specs.Conditions.{Access, Part, Outer, Load, Which, Store, Init, Activate, Advance, Call, Dynamic, Release, order, is_opaque, is_here, listed, on_way, passes, is_union, stops, is_dead, is_deciding, is_before, is_indeterminate, is_sealed, sealed, all_bases, enclosing, class_below, decides, dynamic_in, is_out_of_lifetime, lacks_outer, holds, broken}
-use Rattle.cx_state.specs.Steps.{unless, scalar_of, load, member_of, active, init, store, advance, with_phase, activate, activated, member_tree, begun, with_place, dynamic_class}
+use Rattle.cx_state.specs.Steps.{unless, scalar_of, load, member_of, active, init, store, with_place, dynamic_class, Write, access_of, write}
+use Rattle.cx_state.specs.Steps as steps
 use Rattle.cx_state.specs.Elsewhere.{is_front, is_outside}
 use Rattle.cx_state.proofs.Paths.{and-left, and-right, and-both, same_step-true, same_step-refl, part_changed-here, part_changed-other, map-and_then, parted, asked-parted, with_changed, put-object, below-changed_here}
 use Rattle.cx_state.proofs.Rules.{broken-at, broken-none, none-find}
-use Rattle.cx_state.proofs.Elsewhere.{unless-ok, init-there, store-there, here-not_opaque}
+use Rattle.cx_state.proofs.Elsewhere.{unless-ok, write-there, here-not_opaque}
 
 -- what a tree is in itself, its parts aside
 abbrev pub face : Tree → Tree
@@ -359,10 +360,10 @@ pub stored-read : (t : Tables) (os : Objects) (p : Path) (v : Scalar Path) (new 
 stored-read t os p v new x e a known =
     let i = option_and_then-some (λ (o : Object). below o.tree p.steps) (slice_get os p.object) x a in
     ap (λ r. unless r (scalar_of (at new p))) (stored-unbroken t os p v new i.0 i.1 e known)
-    ∙ ap (λ o. Ok (scalar_of o)) (store-there t os p v new x e a)
+    ∙ ap (λ o. Ok (scalar_of o)) (write-there t os p (steps.Store v) new x e a)
 
 pub init-read : (t : Tables) (os : Objects) (p : Path) (v w : Scalar Path) (new : Objects) (x : Tree) → init t os p v ≡ Ok new → at os p ≡ Some x → load t new p ≡ Ok w → w ≡ v
-init-read t os p v w new x e a l = sym (unless-ok (broken t new p Load) (scalar_of (at new p)) w l).1 ∙ ap scalar_of (init-there t os p v new x e a)
+init-read t os p v w new x e a l = sym (unless-ok (broken t new p Load) (scalar_of (at new p)) w l).1 ∙ ap scalar_of (write-there t os p (steps.Init v) new x e a)
 
 -- each step that writes is such a change
 
@@ -370,17 +371,8 @@ module _ (t : Tables) (os : Objects) (p : Path) (new : Objects) (q : Path) (out 
   from-put : (f : Tree → Tree) (o : Option Rule) → unless o (put f os p) ≡ Ok new → broken t new q access ≡ broken t os q access
   from-put f o e = ap (λ n. broken t n q access) (sym (unless-ok o (put f os p) new e).1) ∙ broken-outside t f os p q access out
 
-  pub init-outside : (v : Scalar Path) → init t os p v ≡ Ok new → broken t new q access ≡ broken t os q access
-  init-outside v e = from-put (λ _. Leaf v) (broken t os p Init) e
-
-  pub store-outside : (v : Scalar Path) → store t os p v ≡ Ok new → broken t new q access ≡ broken t os q access
-  store-outside v e = from-put (λ _. Leaf v) (broken t os p Store) e
-
-  pub advance-outside : (to : Phase) → advance t os p to ≡ Ok new → broken t new q access ≡ broken t os q access
-  advance-outside to e = from-put (with_phase to) (broken t os p (Advance to)) e
-
-  pub activate-outside : (m : ℕ) (alive : Bool) → activate t os p m alive ≡ Ok new → broken t new q access ≡ broken t os q access
-  activate-outside m alive e = from-put (activated m (member_tree t (begun alive) m (row_of t os p))) (broken t os p Activate) e
+  pub write-outside : (w : Write) → write t os p w ≡ Ok new → broken t new q access ≡ broken t os q access
+  write-outside w e = from-put (steps.written t (row_of t os p) w) (broken t os p (access_of w)) e
 
 pub stored-elsewhere : (t : Tables) (os : Objects) (p q : Path) (v : Scalar Path) (new : Objects) → is_outside p q ≡ true → store t os p v ≡ Ok new → load t new q ≡ load t os q
 stored-elsewhere t os p q v new out e = ap (λ n. load t n q) (sym (unless-ok (broken t os p Store) (put (λ _. Leaf v) os p) new e).1) ∙ load-outside t (λ _. Leaf v) os p q out

@@ -21,13 +21,14 @@ use Rattle.cx_state.specs.declared.kind.Phase.{Phase}
 use Rattle.cx_state.specs.Objects.{Path, Tree, Trees, Leaf, Row, Class, Union, Active, part, put, Objects}
 use Rattle.cx_state.specs.Places.{row_part, row_below, root_row, row_of}
 use Rattle.cx_state.specs.Conditions as on
-use Rattle.cx_state.specs.Steps.{blank, new_in, new_tree, with_phase, advance, activated, is_ended, begun, member_tree, activate}
+use Rattle.cx_state.specs.Steps.{blank, new_in, new_tree, with_phase, advance, activated, is_ended, begun, member_tree, activate, deactivated, deactivate, Write, Init, Store, Advance, Activate, Deactivate, write}
 use Rattle.cx_state.specs.Forms.{ClassForm, DeclForm, Form, TreeFits, Fit}
+use Rattle.cx_state.specs.Asked.{GivesValue, NamesMember}
 use Rattle.cx_state.proofs.Fitting.{TreeFits-here, TreeFits-part, TreeFits-made, DeclForm-with}
 use Rattle.cx_state.proofs.NewTrees.{body-known, asked-fits}
 use Rattle.cx_state.proofs.Complete.{complete-new}
 use Rattle.cx_state.proofs.PartsComplete.{member-complete}
-use Rattle.cx_state.proofs.Written.{unless-ok, place-at, object-of, past-activate, Fit-put}
+use Rattle.cx_state.proofs.Written.{unless-ok, place-at, object-of, past-activate, Fit-put, Fit-init, Fit-store}
 
 -- another phase
 
@@ -165,3 +166,41 @@ Fit-activate t os ns p m alive r c f h e ek ef act =
     let is_class : q.kind ≡ kind.Class c = ap (λ (z : TypeRow). z.kind) (sym same) ∙ ek in
     subst (λ z. TreeFits t os (record { kind = z; konst = q.konst }) (activated m new y)) (sym is_class)
     (TreeFits-activated t os c q.konst y new m f ef fits (subst (λ z. TreeFits t os (record { kind = z; konst = q.konst }) y) is_class k))))
+
+-- no active member
+
+ClassForm-none : (k : ClassKey) (b : ClassBody) (m : ℕ) (x : Tree) → ClassForm k b (Active m x) → ClassForm k b Union
+ClassForm-none key.Union b m x h = tt
+ClassForm-none key.Struct b m x h = absurd h
+ClassForm-none key.Class b m x h = absurd h
+
+Form-none : (t : Tables) (os : Objects) (k : TypeKind) (m : ℕ) (x : Tree) → Form t os k (Active m x) → Form t os k Union
+Form-none t os (kind.Class c) m x h = DeclForm-with t (slice_get t.classes c.0) (Active m x) Union (λ w b. ClassForm-none w b m x) h
+Form-none t os (kind.Array to n) m x h = absurd h
+Form-none t os kind.Void m x h = absurd h
+Form-none t os kind.Nullptr m x h = absurd h
+Form-none t os (kind.Int _) m x h = absurd h
+Form-none t os (kind.Enum _) m x h = absurd h
+Form-none t os (kind.Pointer _) m x h = absurd h
+Form-none t os (kind.Reference _) m x h = absurd h
+
+TreeFits-deactivated : (t : Tables) (os : Objects) (r : TypeRow) (x : Tree) → TreeFits t os r x → TreeFits t os r (deactivated x)
+TreeFits-deactivated t os r (Active m x) h = TreeFits-made t os r Union (Form-none t os r.kind m x (TreeFits-here t os r (Active m x) h)) (λ s q y a b. absurd (cc))
+TreeFits-deactivated t os r Union h = h
+TreeFits-deactivated t os r (Leaf v) h = h
+TreeFits-deactivated t os r (Row xs) h = h
+TreeFits-deactivated t os r (Class p bs ms) h = h
+
+pub Fit-deactivate : (t : Tables) (os ns : Objects) (p : Path) → Fit t os → deactivate t os p ≡ Ok ns → Fit t ns
+Fit-deactivate t os ns p h act =
+    let u = unless-ok (on.broken t os p on.Activate) (put deactivated os p) ns act in
+    subst (Fit t) u.1 (Fit-put t deactivated os p h (λ o row q y eo er eq ey k. TreeFits-deactivated t os q y k))
+
+-- each of these writes
+
+pub Fit-write_of : (t : Tables) (os ns : Objects) (p : Path) (w : Write) → Fit t os → GivesValue t os p w → NamesMember t os p w → write t os p w ≡ Ok ns → Fit t ns
+Fit-write_of t os ns p (Init v) h g m e = Fit-init t os ns p g.row v h g.is_row g.is_scalar g.may_hold e
+Fit-write_of t os ns p (Store v) h g m e = Fit-store t os ns p g.row v h g.is_row g.is_scalar g.may_hold e
+Fit-write_of t os ns p (Advance to) h g m e = Fit-advance t os ns p to h e
+Fit-write_of t os ns p (Activate k alive) h g m e = Fit-activate t os ns p k alive m.row m.class m.field h m.is_row m.is_class m.is_field e
+Fit-write_of t os ns p Deactivate h g m e = Fit-deactivate t os ns p h e

@@ -27,7 +27,7 @@ pub data Access : Type 0 where
   Which : Access  -- the active member
   Store : Access
   Init : Access
-  Activate : Access
+  Activate : Access  -- a union's active member, or that it has none
   Advance : Phase → Access
   Call : Access  -- a member call
   Dynamic : Access  -- the most derived class

@@ -58,8 +58,12 @@ passes_limit t limits os o _ = false
 abbrev pub limit_order : List Rule
 limit_order = rule.LimitObjects ∷ rule.LimitCells ∷ []
 
+-- the limit that one object more would pass
+abbrev pub passed_limit : Tables → Limits → Objects → Request → Option Rule
+passed_limit t limits os q = find (passes_limit t limits os (new_object t q)) limit_order
+
 abbrev pub make : Tables → Limits → Objects → Request → Result Objects Rule
-make t limits os q = unless (find (passes_limit t limits os (new_object t q)) limit_order) (os ++ new_object t q ∷ [])
+make t limits os q = unless (passed_limit t limits os q) (os ++ new_object t q ∷ [])
 
 -- the place of the object that is made next
 abbrev pub next_place : Objects → Path

@@ -1,5 +1,5 @@
 -- That objects have the forms of their types, and what keeps a place ([basic.types], [basic.life], [conv.qual]).
-use Rattle.std.specs.Prelude.{◌≡◌, ℕ, zero, suc, ◌<◌, true, List, [], ◌∷◌, length, Option, None, Some, slice_get}
+use Rattle.std.specs.Prelude.{◌≡◌, ◌⊎◌, ℕ, ◌<◌, true, List, [], ◌∷◌, length, Option, None, Some, slice_get}
 use Rattle.cx_ints.specs.Ranges as ranges
 use Rattle.cx_type_defs.specs.declared.ids.Step.{Step}
 use Rattle.cx_type_defs.specs.declared.ids.TypeId.{TypeId}
@@ -12,33 +12,16 @@ use Rattle.cx_type_defs.specs.declared.decl.ClassDecl.{ClassDecl}
 use Rattle.cx_type_defs.specs.declared.decl.ClassKey.{ClassKey}
 use Rattle.cx_type_defs.specs.declared.decl.ClassKey.TheVariants as key
 use Rattle.cx_type_defs.specs.Tables.{Tables, under_at}
-use Rattle.cx_type_defs.specs.Questions.{most_levels, is_complete}
+use Rattle.cx_type_defs.specs.Questions.{is_complete}
 use Rattle.cx_state.specs.declared.kind.Scalar.{Scalar}
 use Rattle.cx_state.specs.declared.kind.Scalar.TheVariants as scalar
 use Rattle.cx_state.specs.Objects.{Path, Tree, Leaf, Row, Class, Union, Active, size, below, Object, Objects}
 use Rattle.cx_state.specs.Places.{row_below, root_row, row_of, is_place}
-
-abbrev pub Both : (TypeRow → TypeRow → Type 0) → Option TypeRow → Option TypeRow → Type 0
-Both R (Some a) (Some b) = R a b
-Both R _ _ = ⊥
-
--- the same type, const at any level aside, as far as so many levels tell
-abbrev pub Alike : Tables → ℕ → TypeKind → TypeKind → Type 0
-Alike t zero a b = ⊥
-Alike t (suc n) kind.Void kind.Void = Unit {0}
-Alike t (suc n) kind.Nullptr kind.Nullptr = Unit {0}
-Alike t (suc n) (kind.Int a) (kind.Int b) = a ≡ b
-Alike t (suc n) (kind.Enum a) (kind.Enum b) = a ≡ b
-Alike t (suc n) (kind.Pointer a) (kind.Pointer b) = Both (λ q r. Alike t n q.kind r.kind) (slice_get t.rows a.0) (slice_get t.rows b.0)
-Alike t (suc n) (kind.Reference a) (kind.Reference b) = Both (λ q r. Alike t n q.kind r.kind) (slice_get t.rows a.0) (slice_get t.rows b.0)
-Alike t (suc n) (kind.Array a i) (kind.Array b j) = (i ≡ j) × Both (λ q r. Alike t n q.kind r.kind) (slice_get t.rows a.0) (slice_get t.rows b.0)
-Alike t (suc n) (kind.Class c) (kind.Class d) = c ≡ d
-Alike t (suc n) _ _ = ⊥
+use Rattle.cx_state.specs.Alike.{Alike}
 
 -- what a pointer or reference to a type may designate: a pointer to void anything
 abbrev pub IsPointee : Tables → TypeKind → TypeKind → Type 0
-IsPointee t kind.Void k = Unit {0}
-IsPointee t to k = Alike t most_levels to k
+IsPointee t to k = (to ≡ kind.Void) ⊎ Alike t to k
 
 -- the place is one of the objects, and what is there is of that type
 pub record Designates (t : Tables) (os : Objects) (to : TypeId) (p : Path) : Type 0 where

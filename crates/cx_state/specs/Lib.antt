@@ -4,8 +4,11 @@ pub mod Conditions
 pub mod Steps
 pub mod Pointers
 pub mod Counts
+pub mod Alike
 pub mod Forms
+pub mod Asked
 pub mod States
 pub mod Elsewhere
 pub mod FirstRule
 pub mod Ways
+pub mod Finished

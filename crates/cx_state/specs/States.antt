@@ -1,6 +1,6 @@
 -- The state of an evaluation, what an evaluation gives, and the steps that it is made of ([expr.const],
 -- [intro.execution], [implimits]).
-use Rattle.std.specs.Prelude.{ℕ, zero, suc, ◌+◌, ◌==◌, nat_lt, Bool, false, List, ◌∷◌, length, Option, Result, Ok, Err, option_map, if◌then◌else◌}
+use Rattle.std.specs.Prelude.{ℕ, zero, suc, ◌+◌, ◌==◌, nat_lt, Bool, false, ◌&&◌, List, ◌∷◌, length, Option, Result, Ok, Err, option_map, if◌then◌else◌}
 use Rattle.std.specs.List.{find}
 use Rattle.cx_base.specs.declared.diag.Mark.{Mark}
 use Rattle.cx_base.specs.declared.diag.Span.{Span}
@@ -84,7 +84,7 @@ changes change m = with_objects m (change m.objects)
 -- names
 
 abbrev pub same_mark : Mark → Mark → Bool
-same_mark a b = a.byte == b.byte
+same_mark a b = (a.byte == b.byte) && (a.line == b.line) && (a.col == b.col)
 
 abbrev pub same_root : Root → Root → Bool
 same_root (root.Variable a) (root.Variable b) = a.0 == b.0
@@ -114,6 +114,15 @@ turn_left (suc l) at m go = go (record { memory = m; left = l })
 abbrev pub turn : {A : Type 0} → Span → State → (State → Out A) → Out A
 turn at s go = turn_left s.left at s.memory go
 
--- one more call that hasn't returned
-abbrev pub enter : Setting → Frame → Memory → Op (Unit {0})
-enter g f m = if nat_lt (length m.frames) g.limits.depth then Done tt (record m { frames = f ∷ m.frames }) else Broken rule.LimitDepth
+-- Calls that haven't returned. Whether one more may begin is asked before its turn is counted, and its frame is pushed
+-- only then: so a call that is one too many is told with the frames of the calls around it.
+
+abbrev pub within_depth : Setting → Memory → Op (Unit {0})
+within_depth g m = if nat_lt (length m.frames) g.limits.depth then Done tt m else Broken rule.LimitDepth
+
+abbrev pub push_frame : Frame → Memory → Op (Unit {0})
+push_frame f m = Done tt (record m { frames = f ∷ m.frames })
+
+-- a call begins, by the depth, the turn and the frame, and goes on
+abbrev pub enter : {A : Type 0} → Setting → Frame → State → (State → Out A) → Out A
+enter g f s go = then_do (step f.span (within_depth g) s) (λ _ a. turn f.span a (λ b. then_do (step f.span (push_frame f) b) (λ _ c. go c)))

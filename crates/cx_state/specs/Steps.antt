@@ -96,18 +96,24 @@ call_on t os p = unless (on.broken t os p on.Call) tt
 
 -- writing
 
-abbrev pub init : Tables → Objects → Path → Scalar Path → Result Objects Rule
-init t os p v = unless (on.broken t os p on.Init) (put (λ _. Leaf v) os p)
+-- the five ways to change what stands at a place
+pub data Write : Type 0 where
+  Init : Scalar Path → Write  -- a scalar or reference gets its first value
+  Store : Scalar Path → Write  -- a scalar gets another value
+  Advance : Phase → Write  -- a class comes to the next phase of its life
+  Activate : ℕ → Bool → Write  -- a member becomes the active one of a union, with its classes alive at once or unborn
+  Deactivate : Write  -- a union loses its active member
 
-abbrev pub store : Tables → Objects → Path → Scalar Path → Result Objects Rule
-store t os p v = unless (on.broken t os p on.Store) (put (λ _. Leaf v) os p)
+abbrev pub access_of : Write → on.Access
+access_of (Init v) = on.Init
+access_of (Store v) = on.Store
+access_of (Advance to) = on.Advance to
+access_of (Activate m alive) = on.Activate
+access_of Deactivate = on.Activate
 
 abbrev pub with_phase : Phase → Tree → Tree
 with_phase to (Class p bases members) = Class to bases members
 with_phase to x = x
-
-abbrev pub advance : Tables → Objects → Path → Phase → Result Objects Rule
-advance t os p to = unless (on.broken t os p (on.Advance to)) (put (with_phase to) os p)
 
 -- Activating a member gives a union a new tree of it; the active member stays as it is, unless it is a class whose
 -- lifetime has ended ([class.union]; what the rest of the member holds then is this project's choice).
@@ -126,8 +132,39 @@ begun alive = if alive then phase.Alive else phase.Unborn
 abbrev pub member_tree : Tables → Phase → ℕ → Option TypeRow → Tree
 member_tree t p m r = unwrap_or (option_map (λ (f : Field). new_tree t p f.ty) (option_and_then (λ c. field_of t c m) (option_and_then (λ (q : TypeRow). on.class_of q.kind) r))) blank
 
+-- A union that loses its active member has none; it does so where it is copied from a union that has none
+-- ([class.copy.ctor], [class.copy.assign]).
+abbrev pub deactivated : Tree → Tree
+deactivated (Active m x) = Union
+deactivated x = x
+
+-- what a write makes of the tree at its place, where that is of this type
+abbrev pub written : Tables → Option TypeRow → Write → Tree → Tree
+written t r (Init v) = λ _. Leaf v
+written t r (Store v) = λ _. Leaf v
+written t r (Advance to) = with_phase to
+written t r (Activate m alive) = activated m (member_tree t (begun alive) m r)
+written t r Deactivate = deactivated
+
+abbrev pub write : Tables → Objects → Path → Write → Result Objects Rule
+write t os p w = unless (on.broken t os p (access_of w)) (put (written t (row_of t os p) w) os p)
+
+-- each of the five by its name
+
+abbrev pub init : Tables → Objects → Path → Scalar Path → Result Objects Rule
+init t os p v = write t os p (Init v)
+
+abbrev pub store : Tables → Objects → Path → Scalar Path → Result Objects Rule
+store t os p v = write t os p (Store v)
+
+abbrev pub advance : Tables → Objects → Path → Phase → Result Objects Rule
+advance t os p to = write t os p (Advance to)
+
 abbrev pub activate : Tables → Objects → Path → ℕ → Bool → Result Objects Rule
-activate t os p m alive = unless (on.broken t os p on.Activate) (put (activated m (member_tree t (begun alive) m (row_of t os p))) os p)
+activate t os p m alive = write t os p (Activate m alive)
+
+abbrev pub deactivate : Tables → Objects → Path → Result Objects Rule
+deactivate t os p = write t os p Deactivate
 
 -- whole objects
 

@@ -12,7 +12,7 @@ use Rattle.cx_state.specs.declared.kind.Scalar.{Scalar}
 use Rattle.cx_state.specs.Objects.{Path, Tree, Object, Objects, put}
 use Rattle.cx_state.specs.Places.{root_row, spot, spot_row, row_of}
 use Rattle.cx_state.specs.Conditions as on
-use Rattle.cx_state.specs.Steps.{init, store, advance, activate, unless, given_up, release, settle, cut}
+use Rattle.cx_state.specs.Steps.{Write, Init, Store, Advance, Activate, Deactivate, access_of, write, init, store, advance, activate, deactivate, unless, given_up, release, settle, cut}
 use Rattle.cx_state.specs.Counts.{Request, new_object, make}
 use Rattle.cx_state.proofs.Known.{unless-ok, row_of-changed_at, row_of-put, make-ok, cut-knows}
 use Rattle.cx_state.proofs.KnownTypes.{cut-types}
@@ -31,6 +31,9 @@ same_rows old new h = record {
 
 pub unchanged : (os : Objects) → StillKnows os os
 unchanged os = record { types = λ t p r e. e; places = λ t p k. k }
+
+pub then_keeps : (a b c : Objects) → StillKnows a b → StillKnows b c → StillKnows a c
+then_keeps a b c k l = record { types = λ t p r e. l.types t p r (k.types t p r e); places = λ t p e. l.places t p (k.places t p e) }
 
 pub put_keeps : (f : Tree → Tree) (os : Objects) (p : Path) → StillKnows os (put f os p)
 put_keeps f os p = same_rows os (put f os p) (λ t q. row_of-put t f os p q)
@@ -61,17 +64,25 @@ make_keeps t limits os now q e = subst (StillKnows os) (make-ok t limits os now 
 step_keeps : (b : Option Rule) (f : Tree → Tree) (os now : Objects) (p : Path) → unless b (put f os p) ≡ Ok now → StillKnows os now
 step_keeps b f os now p e = subst (StillKnows os) (unless-ok b (put f os p) now e).1 (put_keeps f os p)
 
+pub write_keeps : (t : Tables) (os now : Objects) (p : Path) (w : Write) → write t os p w ≡ Ok now → StillKnows os now
+write_keeps t os now p w e = step_keeps (on.broken t os p (access_of w)) _ os now p e
+
+-- each of the five by its name
+
 pub init_keeps : (t : Tables) (os now : Objects) (p : Path) (v : Scalar Path) → init t os p v ≡ Ok now → StillKnows os now
-init_keeps t os now p v e = step_keeps (on.broken t os p on.Init) _ os now p e
+init_keeps t os now p v = write_keeps t os now p (Init v)
 
 pub store_keeps : (t : Tables) (os now : Objects) (p : Path) (v : Scalar Path) → store t os p v ≡ Ok now → StillKnows os now
-store_keeps t os now p v e = step_keeps (on.broken t os p on.Store) _ os now p e
+store_keeps t os now p v = write_keeps t os now p (Store v)
 
 pub advance_keeps : (t : Tables) (os now : Objects) (p : Path) (to : Phase) → advance t os p to ≡ Ok now → StillKnows os now
-advance_keeps t os now p to e = step_keeps (on.broken t os p (on.Advance to)) _ os now p e
+advance_keeps t os now p to = write_keeps t os now p (Advance to)
 
 pub activate_keeps : (t : Tables) (os now : Objects) (p : Path) (m : ℕ) (alive : Bool) → activate t os p m alive ≡ Ok now → StillKnows os now
-activate_keeps t os now p m alive e = step_keeps (on.broken t os p on.Activate) _ os now p e
+activate_keeps t os now p m alive = write_keeps t os now p (Activate m alive)
+
+pub deactivate_keeps : (t : Tables) (os now : Objects) (p : Path) → deactivate t os p ≡ Ok now → StillKnows os now
+deactivate_keeps t os now p = write_keeps t os now p Deactivate
 
 pub release_keeps : (os now : Objects) (p : Path) → release os p ≡ Ok now → StillKnows os now
 release_keeps os now p e = subst (StillKnows os) (unless-ok (on.broken no_types os p on.Release) _ now e).1 (changed_keeps given_up (λ t o. refl) os p.object)
@@ -94,4 +105,4 @@ changed_or_not (Err r) old new result h c = subst (StillKnows old) (sym c.1) (un
 pub made_or_not : {P : Type 0} (t : Tables) (limits : Limits) (q : Request) (old new : Objects) (path : P → Path) (result : Result P StoreAnswer) → Made t limits q old new path result → StillKnows old new
 made_or_not t limits q old new path (Ok p) m = make_keeps t limits old new q m.0
 made_or_not t limits q old new path (Err (answer.Rule r)) m = subst (StillKnows old) (sym m.1) (unchanged old)
-made_or_not t limits q old new path (Err answer.Memory) m = subst (StillKnows old) (sym m) (unchanged old)
+made_or_not t limits q old new path (Err answer.Memory) m = subst (StillKnows old) (sym m.1) (unchanged old)

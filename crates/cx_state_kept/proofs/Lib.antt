@@ -1,2 +1,4 @@
 pub mod Keeping
 pub mod Reading
+pub mod Holding
+pub mod Meeting

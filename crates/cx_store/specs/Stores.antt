@@ -38,11 +38,12 @@ pub record IsWhole (t : Tables) (ty : TypeId) (count : Option ℕ) : Type 0 wher
 abbrev pub KeepsPaths : {P : Type 0} → Objects → (P → Path) → (P → Path) → Type 0
 KeepsPaths old before after = (p : _) → (before p).object < length old → after p ≡ before p
 
--- a new object and its place, or the limit's rule; `Memory` is free
+-- A new object and its place, or the limit's rule. `Memory` may come instead of the object, but not of a limit's rule: a
+-- limit that would be passed is always told.
 abbrev pub Made : {P : Type 0} → Tables → Limits → counts.Request → Objects → Objects → (P → Path) → Result P StoreAnswer → Type 0
 Made t limits q old new path (Ok p) = (counts.make t limits old q ≡ Ok new) × (path p ≡ counts.next_place old)
 Made t limits q old new path (Err (answer.Rule r)) = (counts.make t limits old q ≡ Err r) × (new ≡ old)
-Made t limits q old new path (Err answer.Memory) = new ≡ old
+Made t limits q old new path (Err answer.Memory) = (counts.passed_limit t limits old q ≡ None) × (new ≡ old)
 
 -- what a scalar holds, with each place seen as its path
 abbrev pub seen : {P : Type 0} → (P → Path) → Scalar P → Scalar Path

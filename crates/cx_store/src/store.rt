@@ -61,7 +61,7 @@ pub trait Store {
     ghost fits_grown: { (s : Self) (t u : Tables) → Grows t u → fits s t → fits s u };
 
     /// Makes an object of a complete type, or an array of so many of it. A limit's rule comes exactly where one unit
-    /// more would pass it.
+    /// more would pass it, also where there is no memory for the object.
     fn make(
         &mut self,
         types: &Types,
@@ -214,6 +214,16 @@ pub trait Store {
         requires union { says.IsUnionAt types.now (objects self.old) (path self.old at) }
         requires there { says.HasField types.now (objects self.old) (path self.old at) member }
         ensures changed { Changed (steps.activate types.now (objects self.old) (path self.old at) member alive) (objects self.old) (objects self.new) result }
+        ensures paths { path self.new ≡ path self.old }
+        ensures fit { fits self.new types.now }
+        ensures knows { says.StillKnows (objects self.old) (objects self.new) };
+
+    /// Leaves a union without active member ([class.union]).
+    fn deactivate(&mut self, types: &Types, at: Self::Place) -> Result<(), Rule>
+        requires fits { fits self.old types.now }
+        requires known { Knows types.now (objects self.old) (path self.old at) }
+        requires union { says.IsUnionAt types.now (objects self.old) (path self.old at) }
+        ensures changed { Changed (steps.deactivate types.now (objects self.old) (path self.old at)) (objects self.old) (objects self.new) result }
         ensures paths { path self.new ≡ path self.old }
         ensures fit { fits self.new types.now }
         ensures knows { says.StillKnows (objects self.old) (objects self.new) };

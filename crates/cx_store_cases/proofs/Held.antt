@@ -1,6 +1,6 @@
--- What objects hold after each step: a place that is held lies in an object that is no newer, or below the mark.
-use Rattle.std.proofs.Common.{◌≡◌, ℕ, zero, suc, ◌<◌, ◌≤◌, ◌⊎◌, inl, inr, Bool, true, false, not, ◌&&◌, List, [], ◌∷◌, ◌++◌, length, take, Option, None, Some, Ok, Err, Result, refl, sym, ap, subst, ◌∙◌, slice_get, arith, if◌then◌else◌, ◌==◌}
-use Rattle.std.specs.Prelude.{option_map, option_and_then}
+-- What objects hold after each step: a place that is held lies in an object below the mark.
+use Rattle.std.proofs.Common.{◌≡◌, ℕ, ◌<◌, ◌≤◌, inl, inr, Bool, true, false, not, ◌&&◌, List, [], ◌∷◌, ◌++◌, Option, None, Some, Ok, Result, refl, sym, ap, subst, ◌∙◌, arith, if◌then◌else◌, ◌==◌}
+use Rattle.std.specs.Prelude.{option_and_then}
 use Rattle.cx_base.specs.declared.rule.Rule.{Rule}
 use Rattle.cx_base.specs.declared.limits.Limits.{Limits}
 use Rattle.std.specs.List.{find}
@@ -13,39 +13,35 @@ use Rattle.cx_type_defs.specs.declared.kind.TypeKind.TheVariants as kind
 use Rattle.cx_type_defs.specs.declared.decl.Field.{Field}
 use Rattle.cx_type_defs.specs.Tables.{Tables, no_types, field_of, changed_at}
 use Rattle.cx_type_defs.specs.Questions.{is_complete}
-use Rattle.cx_type_defs.proofs.Lists.{some_inj, option_and_then-some, option_map-some, slice_get-push}
+use Rattle.cx_type_defs.proofs.Lists.{some_inj, option_and_then-some, slice_get-push}
 use Rattle.cx_state.specs.declared.kind.Phase.{Phase}
 use Rattle.cx_state.specs.declared.kind.Birth.{Birth}
 use Rattle.cx_state.specs.declared.kind.Scalar.{Scalar}
 use Rattle.cx_state.specs.declared.kind.Scalar.TheVariants as scalar
 use Rattle.cx_state.specs.Objects.{Path, Tree, Trees, Leaf, Row, Class, Union, Active, part, part_changed, below, changed, Object, Objects, put}
-use Rattle.cx_state.specs.Places.{row_of, row_part}
+use Rattle.cx_state.specs.Places.{row_of}
 use Rattle.cx_state.specs.Conditions as on
-use Rattle.cx_state.specs.Steps.{unless, ended, is_ended, activated, begun, member_tree, with_phase, given_up, init, store, advance, activate, release, settle, cut}
+use Rattle.cx_state.specs.Steps.{unless, ended, is_ended, activated, begun, member_tree, with_phase, deactivated, given_up, init, store, advance, activate, deactivate, release, settle, cut}
 use Rattle.cx_state.specs.Counts.{Request, new_object, passes_limit, limit_order, make}
-use Rattle.cx_state.specs.Forms.{Designates, MayHold, TreeFits, Fit, HoldsBelow}
+use Rattle.cx_state.specs.Forms.{MayHold, TreeFits, Fit, HoldsBelow}
 use Rattle.cx_state.proofs.Fitting.{TreeFits-here, TreeFits-part, part_changed-part}
 use Rattle.cx_state.proofs.Growing.{part-typed}
 use Rattle.cx_state.proofs.Written.{leaf-scalar}
 use Rattle.cx_state.proofs.Stepped.{only-part, member_tree-is}
 use Rattle.cx_state.proofs.RowsKept.{changed_at-object, take-object}
 use Rattle.cx_state.proofs.NewTrees.{asked-fits}
-use Rattle.cx_state.proofs.Complete.{complete-new}
 use Rattle.cx_state.proofs.PartsComplete.{member-complete}
 use Rattle.cx_state.proofs.Making.{new-fits, new-of}
 use Rattle.cx_state.proofs.EndedTrees.{listed-ended}
-use Rattle.cx_store.specs.Stores.{Changed, Made}
-use Rattle.cx_store_cases.specs.Seats.{HeldBelow, IsSafely}
+use Rattle.cx_store.specs.Stores.{Changed}
+use Rattle.cx_store_cases.specs.Seats.{HeldBelow, IsBelow}
 
-abbrev Safe : ℕ → ℕ → Path → Type 0
-Safe mark n p = (p.object ≤ n) ⊎ (p.object < mark)
+abbrev Safe : ℕ → Path → Type 0
+Safe mark p = p.object < mark
 
 -- each place that a tree holds is so
 record Only (Q : Path → Type 0) (x : Tree) : Type 0 where
   only : (ss : List Step) (p : Path) → below x ss ≡ Some (Leaf (scalar.Place p)) → Q p
-
-only-some : (Q R : Path → Type 0) (x : Tree) → ((p : Path) → Q p → R p) → Only Q x → Only R x
-only-some Q R x f h = record { only = λ ss p e. f p (h.only ss p e) }
 
 part-only : (Q : Path → Type 0) (x : Tree) → Only Q x → (s : Step) (y : Tree) → part x s ≡ Some y → Only Q y
 part-only Q x h s y e = record { only = λ ss p f. h.only (s ∷ ss) p (ap (option_and_then (λ z. below z ss)) e ∙ f) }
@@ -144,6 +140,13 @@ activated-only Q m new (Leaf v) g h = h
 activated-only Q m new (Row xs) g h = h
 activated-only Q m new (Class p bs ms) g h = h
 
+deactivated-only : (Q : Path → Type 0) (x : Tree) → Only Q x → Only Q (deactivated x)
+deactivated-only Q (Active m x) h = parts-only Q Union (λ v e. absurd (cc)) (λ s y e. absurd (cc))
+deactivated-only Q Union h = h
+deactivated-only Q (Leaf v) h = h
+deactivated-only Q (Row xs) h = h
+deactivated-only Q (Class p bs ms) h = h
+
 -- what has ended holds nothing
 ended-holds : (Q : Path → Type 0) (ss : List Step) (x : Tree) (p : Path) → below (ended x) ss ≡ Some (Leaf (scalar.Place p)) → Q p
 ended-holds Q [] (Leaf v) p e = absurd (cc)
@@ -172,43 +175,37 @@ ended-holds Q (s ∷ ss) (Active m x) p e = absurd (cc)
 
 -- objects
 
-safe-more : (m k n : ℕ) (p : Path) → m ≤ k → Safe m n p → Safe k n p
-safe-more m k n p l (inl a) = inl a
-safe-more m k n p l (inr b) = inr (omega arith)
-
 pub held-more : (os : Objects) (m k : ℕ) → m ≤ k → HeldBelow os m → HeldBelow os k
-held-more os m k l h = record { held = λ n o ss p a e. safe-more m k n p l (h.held n o ss p a e) }
+held-more os m k l h = record { held = λ n o ss p a e. let b = h.held n o ss p a e in omega arith }
 
 -- one object changes
-held-one : (f : Object → Object) (os : Objects) (i m : ℕ) → HeldBelow os m → ((o : Object) → slice_get os i ≡ Some o → Only (Safe m i) o.tree → Only (Safe m i) (f o).tree) → HeldBelow (changed_at f os i) m
+held-one : (f : Object → Object) (os : Objects) (i m : ℕ) → HeldBelow os m → ((o : Object) → Only (Safe m) o.tree → Only (Safe m) (f o).tree) → HeldBelow (changed_at f os i) m
 held-one f os i m h g = record {
-  held = λ n o ss p a e. elim (changed_at-object f os i n o a) as (λ _. Safe m n p) [
+  held = λ n o ss p a e. elim (changed_at-object f os i n o a) as (λ _. Safe m p) [
     | inl b ↦ h.held n o ss p b e
-    | inr w ↦
-        let at : slice_get os i ≡ Some w.0 = subst (λ j. slice_get os j ≡ Some w.0) w.2 w.1 in
-        subst (λ j. Safe m j p) (sym w.2) ((g w.0 at (record { only = λ us q c. h.held i w.0 us q at c })).only ss p (subst (λ (x : Object). below x.tree ss ≡ Some (Leaf (scalar.Place p))) (sym w.3) e))
+    | inr w ↦ (g w.0 (record { only = λ us q c. h.held n w.0 us q w.1 c })).only ss p (subst (λ (x : Object). below x.tree ss ≡ Some (Leaf (scalar.Place p))) (sym w.3) e)
   ];
 }
 
-held-put : (f : Tree → Tree) (os : Objects) (p : Path) (m : ℕ) → HeldBelow os m → ((z : Tree) → Only (Safe m p.object) z → Only (Safe m p.object) (f z)) → HeldBelow (put f os p) m
+held-put : (f : Tree → Tree) (os : Objects) (p : Path) (m : ℕ) → HeldBelow os m → ((z : Tree) → Only (Safe m) z → Only (Safe m) (f z)) → HeldBelow (put f os p) m
 held-put f os p m h g =
-    held-one (λ (o : Object). record o { tree = changed f o.tree p.steps }) os p.object m h (λ o e k. record { only = changed-only (Safe m p.object) f p.steps o.tree k g })
+    held-one (λ (o : Object). record o { tree = changed f o.tree p.steps }) os p.object m h (λ o k. record { only = changed-only (Safe m) f p.steps o.tree k g })
 
 held-by : (b : Option Rule) (os after now : Objects) (r : Result (Unit {0}) Rule) (m : ℕ) → HeldBelow os m → HeldBelow after m → Changed (unless b after) os now r → HeldBelow now m
 held-by None os after now r m h g c = subst (λ w. HeldBelow w m) (sym c.1) g
 held-by (Some x) os after now r m h g c = subst (λ w. HeldBelow w m) (sym c.1) h
 
-written-only : (m n : ℕ) (v : Scalar Path) → IsSafely n m v → Only (Safe m n) (Leaf v)
-written-only m n v h = leaf-only (Safe m n) v (λ p e. subst (IsSafely n m) e h)
+written-only : (m : ℕ) (v : Scalar Path) → IsBelow m v → Only (Safe m) (Leaf v)
+written-only m v h = leaf-only (Safe m) v (λ p e. subst (IsBelow m) e h)
 
-pub held-init : (t : Tables) (os now : Objects) (p : Path) (v : Scalar Path) (r : Result (Unit {0}) Rule) (m : ℕ) → HeldBelow os m → IsSafely p.object m v → Changed (init t os p v) os now r → HeldBelow now m
-held-init t os now p v r m h s c = held-by (on.broken t os p on.Init) os (put (λ _. Leaf v) os p) now r m h (held-put (λ _. Leaf v) os p m h (λ z k. written-only m p.object v s)) c
+pub held-init : (t : Tables) (os now : Objects) (p : Path) (v : Scalar Path) (r : Result (Unit {0}) Rule) (m : ℕ) → HeldBelow os m → IsBelow m v → Changed (init t os p v) os now r → HeldBelow now m
+held-init t os now p v r m h s c = held-by (on.broken t os p on.Init) os (put (λ _. Leaf v) os p) now r m h (held-put (λ _. Leaf v) os p m h (λ z k. written-only m v s)) c
 
-pub held-store : (t : Tables) (os now : Objects) (p : Path) (v : Scalar Path) (r : Result (Unit {0}) Rule) (m : ℕ) → HeldBelow os m → IsSafely p.object m v → Changed (store t os p v) os now r → HeldBelow now m
-held-store t os now p v r m h s c = held-by (on.broken t os p on.Store) os (put (λ _. Leaf v) os p) now r m h (held-put (λ _. Leaf v) os p m h (λ z k. written-only m p.object v s)) c
+pub held-store : (t : Tables) (os now : Objects) (p : Path) (v : Scalar Path) (r : Result (Unit {0}) Rule) (m : ℕ) → HeldBelow os m → IsBelow m v → Changed (store t os p v) os now r → HeldBelow now m
+held-store t os now p v r m h s c = held-by (on.broken t os p on.Store) os (put (λ _. Leaf v) os p) now r m h (held-put (λ _. Leaf v) os p m h (λ z k. written-only m v s)) c
 
 pub held-advance : (t : Tables) (os now : Objects) (p : Path) (to : Phase) (r : Result (Unit {0}) Rule) (m : ℕ) → HeldBelow os m → Changed (advance t os p to) os now r → HeldBelow now m
-held-advance t os now p to r m h c = held-by (on.broken t os p (on.Advance to)) os (put (with_phase to) os p) now r m h (held-put (with_phase to) os p m h (λ z k. phase-only (Safe m p.object) to z k)) c
+held-advance t os now p to r m h c = held-by (on.broken t os p (on.Advance to)) os (put (with_phase to) os p) now r m h (held-put (with_phase to) os p m h (λ z k. phase-only (Safe m) to z k)) c
 
 pub held-activate : (t : Tables) (os now : Objects) (p : Path) (i : ℕ) (alive : Bool) (row : TypeRow) (c : ClassId) (f : Field) (r : Result (Unit {0}) Rule) (m : ℕ) → Fit t os → row_of t os p ≡ Some row → row.kind ≡ kind.Class c → field_of t c i ≡ Some f
     → HeldBelow os m → Changed (activate t os p i alive) os now r → HeldBelow now m
@@ -218,18 +215,21 @@ held-activate t os now p i alive row c f r m fit e ek ef h change =
     let w = new-of t (begun alive) f.ty complete in
     let is : w.tree ≡ new = member_tree-is t (begun alive) i (row_of t os p) row c f w.tree e ek ef w.is_tree in
     let fits : TreeFits t [] (record { kind = w.row.kind; konst = w.row.konst }) new = subst (TreeFits t [] (record { kind = w.row.kind; konst = w.row.konst })) is ((asked-fits t [] (begun alive)).type_fits f.ty w.tree w.is_tree w.row w.is_row w.row.konst) in
-    held-by (on.broken t os p on.Activate) os (put (activated i new) os p) now r m h (held-put (activated i new) os p m h (λ z k. activated-only (Safe m p.object) i new z (new-only (Safe m p.object) t (record { kind = w.row.kind; konst = w.row.konst }) new fits) k)) change
+    held-by (on.broken t os p on.Activate) os (put (activated i new) os p) now r m h (held-put (activated i new) os p m h (λ z k. activated-only (Safe m) i new z (new-only (Safe m) t (record { kind = w.row.kind; konst = w.row.konst }) new fits) k)) change
+
+pub held-deactivate : (t : Tables) (os now : Objects) (p : Path) (r : Result (Unit {0}) Rule) (m : ℕ) → HeldBelow os m → Changed (deactivate t os p) os now r → HeldBelow now m
+held-deactivate t os now p r m h c = held-by (on.broken t os p on.Activate) os (put deactivated os p) now r m h (held-put deactivated os p m h (λ z k. deactivated-only (Safe m) z k)) c
 
 pub held-release : (os now : Objects) (p : Path) (r : Result (Unit {0}) Rule) (m : ℕ) → HeldBelow os m → Changed (release os p) os now r → HeldBelow now m
 held-release os now p r m h c =
-    held-by (on.broken no_types os p on.Release) os (changed_at given_up os p.object) now r m h (held-one given_up os p.object m h (λ o e k. record { only = λ ss q a. ended-holds (Safe m p.object) ss o.tree q a })) c
+    held-by (on.broken no_types os p on.Release) os (changed_at given_up os p.object) now r m h (held-one given_up os p.object m h (λ o k. record { only = λ ss q a. ended-holds (Safe m) ss o.tree q a })) c
 
 pub held-settle : (os now : Objects) (p : Path) (b : Birth) (m : ℕ) → HeldBelow os m → now ≡ settle os p b → HeldBelow now m
-held-settle os now p b m h e = subst (λ w. HeldBelow w m) (sym e) (held-one (λ (o : Object). record o { birth = b }) os p.object m h (λ o e k. k))
+held-settle os now p b m h e = subst (λ w. HeldBelow w m) (sym e) (held-one (λ (o : Object). record o { birth = b }) os p.object m h (λ o k. k))
 
 held-push : (t : Tables) (os : Objects) (q : Request) (m : ℕ) → is_complete t q.ty ≡ true → HeldBelow os m → HeldBelow (os ++ new_object t q ∷ []) m
 held-push t os q m complete h = record {
-  held = λ n o ss p a e. elim (slice_get-push os (new_object t q) n o a) as (λ _. Safe m n p) [
+  held = λ n o ss p a e. elim (slice_get-push os (new_object t q) n o a) as (λ _. Safe m p) [
     | inl b ↦ h.held n o ss p b e
     | inr w ↦
         let fit = new-fits t [] q complete in
@@ -250,5 +250,5 @@ held-cut os now mark m h e = subst (λ w. HeldBelow w m) (sym e) (record { held 
 -- so objects may be cut off from that mark on
 pub may-cut : (os : Objects) (mark m : ℕ) → m ≤ mark → HeldBelow os m → HoldsBelow os mark
 may-cut os mark m l h = record {
-  holds_below = λ n o ss p a b e. elim (h.held n o ss p b e) as (λ _. p.object < mark) [ inl c ↦ omega arith | inr c ↦ omega arith ];
+  holds_below = λ n o ss p a b e. let c = h.held n o ss p b e in omega arith;
 }

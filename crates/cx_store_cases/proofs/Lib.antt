@@ -1,5 +1,4 @@
 mod Lists
-mod Bodies
 mod Seats
 mod Reaching
 mod Held

@@ -1,5 +1,5 @@
 -- What is found of each item of a list.
-use Rattle.std.proofs.Common.{◌≡◌, ℕ, ◌+◌, ◌<◌, ◌≤◌, inl, inr, List, [], ◌∷◌, ◌++◌, Some, slice_get, length, map, take, sum, get_or, sym, ap, subst, arith}
+use Rattle.std.proofs.Common.{◌≡◌, ℕ, ◌+◌, ◌<◌, ◌≤◌, ◌⊎◌, inl, inr, Bool, false, true≢false, IsTrue, ◌↔◌, refl, ◌∙◌, List, [], ◌∷◌, ◌++◌, Some, slice_get, length, take, get_or, sym, subst, arith}
 use Rattle.std.proofs.lemmas.List.{take_more, take_all}
 use Rattle.cx_type_defs.proofs.Lists.{slice_get-push}
 
@@ -19,3 +19,17 @@ AllAt-more P xs i d h p all = subst (AllAt P) (sym (take_more xs i d h)) (AllAt-
 
 pub AllAt-whole : {A : Type 0} (P : A → Type 0) (xs : List A) (i : ℕ) → length xs ≤ i → AllAt P (take i xs) → AllAt P xs
 AllAt-whole P xs i h all = subst (AllAt P) (take_all i xs h) all
+
+-- a test that fails at 1000
+
+at-most_or_more : (a b : ℕ) → (a ≤ b) ⊎ (b < a)
+at-most_or_more a b = grind arith
+
+pub few : (b : Bool) (n : ℕ) → IsTrue b ↔ (1000 < n) → b ≡ false → n ≤ 1000
+few b n h e =
+    elim (at-most_or_more n 1000) as (λ _. n ≤ 1000)
+    [ inl le ↦ le | inr more ↦ absurd (true≢false (sym (h.1 more) ∙ e)) ]
+
+pub empty_list : {A : Type 0} (xs : List A) → length xs ≡ 0 → xs ≡ []
+empty_list [] e = refl
+empty_list (x ∷ xs) e = absurd (omega arith)

@@ -1,5 +1,5 @@
 -- What follows for the places that one comes to, and for scalars.
-use Rattle.std.proofs.Common.{◌≡◌, ℕ, ◌<◌, Bool, true, false, not, Option, None, Some, Ok, refl, sym, ap, subst, ◌∙◌, inl, inr, slice_get, length, arith, ℤ}
+use Rattle.std.proofs.Common.{◌≡◌, ℕ, ◌<◌, true, false, not, Option, None, Some, Ok, sym, ap, subst, ◌∙◌, inl, inr, slice_get, length, ℤ}
 use Rattle.std.specs.Prelude.{option_map, option_and_then, unwrap_or}
 use Rattle.std.proofs.lemmas.Option.{slice_get_within}
 use Rattle.cx_type_defs.specs.declared.ids.TypeId.{TypeId}
@@ -10,19 +10,20 @@ use Rattle.cx_type_defs.specs.declared.kind.TypeKind.TheVariants as kind
 use Rattle.cx_type_defs.specs.declared.decl.ClassDecl.{ClassDecl}
 use Rattle.cx_type_defs.specs.declared.decl.ClassKey.{ClassKey}
 use Rattle.cx_type_defs.specs.Tables.{Tables}
-use Rattle.cx_type_defs.specs.Questions.{OfType, address_answer, looked, most_levels, extent_of}
+use Rattle.cx_type_defs.specs.Questions.{OfType, address_answer, looked, extent_of}
 use Rattle.cx_type_defs.proofs.Lists.{some_inj, option_and_then-some, option_map-some}
 use Rattle.cx_state.specs.declared.kind.Scalar.{Scalar}
 use Rattle.cx_state.specs.declared.kind.Scalar.TheVariants as scalar
 use Rattle.cx_state.specs.Objects.{Path, Objects}
 use Rattle.cx_state.specs.Places.{row_of}
 use Rattle.cx_state.specs.Conditions as on
-use Rattle.cx_state.specs.Steps.{outer, dynamic_class}
+use Rattle.cx_state.specs.Steps.{outer}
 use Rattle.cx_state.specs.Pointers.{add, is_union_key, is_union_kind}
-use Rattle.cx_state.specs.Forms.{HoldsValue, Alike, IsPointee, Designates, MayHold, Fit}
+use Rattle.cx_state.proofs.SameTypes.{alike-simple}
+use Rattle.cx_state.specs.Forms.{IsPointee, Designates, MayHold, Fit}
 use Rattle.cx_state.proofs.PartsComplete.{Answered, place-answered}
-use Rattle.cx_state.proofs.KnownTypes.{add-types, outer-class_at, dynamic_class-class_at}
-use Rattle.cx_store.specs.Stores.{IsOf, IsScalarAt, IsClassAt, IsUnionAt, MayTake, is_class_kind, seen}
+use Rattle.cx_state.proofs.KnownTypes.{add-types, outer-class_at}
+use Rattle.cx_store.specs.Stores.{IsOf, IsClassAt, IsUnionAt, MayTake, is_class_kind, seen}
 use Rattle.cx_store_cases.specs.declared.seat.Seat.{Seat}
 use Rattle.cx_store_cases.specs.Seats.{IsTold, IsSeat, IsClassSeat, IsLed, IsOwn, IsExact}
 use Rattle.cx_store_cases.proofs.Seats.{seat-known, seat-told}
@@ -74,18 +75,12 @@ module _ {P : Type 0} (t : Tables) (os : Objects) (path : P → Path) where
   pub outer-seat : (s new : Seat P) (c : ClassId) → IsSeat t os path s → outer t os (path s.place) c ≡ Ok (path new.place) → new.kind ≡ Some (kind.Class c) → IsSeat t os path new
   outer-seat s new c h e n = class-seat_at new c (outer-class_at t os (path s.place) (path new.place) c (seat-known t os path s h) e) n
 
-  pub decider-seat : (s new : Seat P) (c : ClassId) → dynamic_class t os (path s.place) ≡ Ok (Some (c, path new.place)) → new.kind ≡ Some (kind.Class c) → IsSeat t os path new
-  decider-seat s new c e n = class-seat_at new c (dynamic_class-class_at t os (path s.place) (path new.place) c e) n
-
   pub moved-seat : (s new : Seat P) (by : ℤ) → IsSeat t os path s → add t os (path s.place) by ≡ Ok (path new.place) → new.kind ≡ s.kind → IsSeat t os path new
   moved-seat s new by h e n = record {
     row = h.row;
     is_row = add-types t os (path s.place) (path new.place) by (seat-known t os path s h) e ∙ h.is_row;
     is_told = subst (λ o. IsTold o h.row.kind) (sym n) h.is_told;
   }
-
-  pub scalar-there : (s : Seat P) (k : TypeKind) → IsSeat t os path s → s.kind ≡ Some k → HoldsValue k → IsScalarAt t os (path s.place)
-  scalar-there s k h e v = is-of (λ r. HoldsValue r.kind) (row_of t os (path s.place)) h.row h.is_row (subst HoldsValue (sym (seat-told t os path s k h e)) v)
 
   -- what a pointer leads to is one of the tables
   row-within : (to : TypeId) (n : ℕ) (x : _) → option_and_then (λ (r : TypeRow). address_answer extent_of (looked extent_of t n (OfType to)) r.kind) (slice_get t.rows to.0) ≡ Some x → to.0 < length t.rows
@@ -105,23 +100,10 @@ module _ {P : Type 0} (t : Tables) (os : Objects) (path : P → Path) where
 
   -- what it designates, where it leads to a form of its own
   own-alike : (k l : TypeKind) → IsOwn k → IsPointee t k l → l ≡ k
-  unfolding most_levels
-  own-alike (kind.Int i) (kind.Int j) w e = ap kind.Int (sym e)
-  own-alike (kind.Class c) (kind.Class d) w e = ap kind.Class (sym e)
-  own-alike (kind.Int i) kind.Void w e = absurd e
-  own-alike (kind.Int i) kind.Nullptr w e = absurd e
-  own-alike (kind.Int i) (kind.Enum _) w e = absurd e
-  own-alike (kind.Int i) (kind.Pointer _) w e = absurd e
-  own-alike (kind.Int i) (kind.Reference _) w e = absurd e
-  own-alike (kind.Int i) (kind.Array _ _) w e = absurd e
-  own-alike (kind.Int i) (kind.Class _) w e = absurd e
-  own-alike (kind.Class c) kind.Void w e = absurd e
-  own-alike (kind.Class c) kind.Nullptr w e = absurd e
-  own-alike (kind.Class c) (kind.Int _) w e = absurd e
-  own-alike (kind.Class c) (kind.Enum _) w e = absurd e
-  own-alike (kind.Class c) (kind.Pointer _) w e = absurd e
-  own-alike (kind.Class c) (kind.Reference _) w e = absurd e
-  own-alike (kind.Class c) (kind.Array _ _) w e = absurd e
+  own-alike (kind.Int i) l w (inl e) = absurd (cc)
+  own-alike (kind.Int i) l w (inr a) = alike-simple t (kind.Int i) l tt a
+  own-alike (kind.Class c) l w (inl e) = absurd (cc)
+  own-alike (kind.Class c) l w (inr a) = alike-simple t (kind.Class c) l tt a
   own-alike kind.Void l w e = absurd w
   own-alike kind.Nullptr l w e = absurd w
   own-alike (kind.Enum _) l w e = absurd w

@@ -1,6 +1,6 @@
 -- What follows for places with their types.
-use Rattle.std.proofs.Common.{◌≡◌, ℕ, ◌<◌, ◌≤◌, Bool, true, false, List, [], ◌∷◌, length, Option, None, Some, Ok, Err, Result, refl, sym, ap, subst, ◌∙◌, slice_get, arith}
-use Rattle.std.specs.Prelude.{option_map, option_and_then, is_some, IsSome}
+use Rattle.std.proofs.Common.{◌≡◌, ℕ, ◌<◌, ◌≤◌, false, [], length, Option, None, Some, Ok, Err, Result, refl, sym, ap, subst, ◌∙◌, slice_get}
+use Rattle.std.specs.Prelude.{option_map, option_and_then, IfOk}
 use Rattle.cx_base.specs.declared.rule.Rule.{Rule}
 use Rattle.cx_type_defs.specs.declared.ids.Step.{Step}
 use Rattle.cx_type_defs.specs.declared.ids.Step.TheVariants as step
@@ -10,20 +10,19 @@ use Rattle.cx_type_defs.specs.declared.kind.TypeRow.{TypeRow}
 use Rattle.cx_type_defs.specs.declared.kind.TypeKind.{TypeKind}
 use Rattle.cx_type_defs.specs.declared.kind.TypeKind.TheVariants as kind
 use Rattle.cx_type_defs.specs.declared.decl.Field.{Field}
-use Rattle.cx_type_defs.specs.declared.decl.ClassBody.{ClassBody}
 use Rattle.cx_type_defs.specs.declared.decl.ClassDecl.{ClassDecl}
-use Rattle.cx_type_defs.specs.Tables.{Tables, body_at, base_of, field_of}
-use Rattle.cx_type_defs.specs.Questions.{OfType, OfClass, class_answer, body_answer, kind_answer, looked, extent_of, is_complete}
+use Rattle.cx_type_defs.specs.Tables.{Tables, base_of, field_of}
+use Rattle.cx_type_defs.specs.Questions.{body_answer, looked, extent_of}
 use Rattle.cx_type_defs.proofs.Lists.{some_inj, option_and_then-some, option_map-some}
 use Rattle.cx_state.specs.Objects.{Path, Objects}
-use Rattle.cx_state.specs.Places.{row_part, row_of, base_row, element, elements}
+use Rattle.cx_state.specs.Places.{row_part, row_of, base_row, element}
 use Rattle.cx_state.specs.Conditions as on
 use Rattle.cx_state.specs.Steps.{unless, deeper, to_field, to_base, to_elem}
 use Rattle.cx_state.specs.Forms.{Fit, Knows}
 use Rattle.cx_state.proofs.Known.{unless-ok, known-row, Second, unbroken-not_past, part-row, to_elem-row}
 use Rattle.cx_state.proofs.PartsComplete.{Answered, place-answered, member-complete, element-complete, complete-known}
-use Rattle.cx_store.specs.Stores.{IsOf, HasElem, IsUpTo}
 use Rattle.cx_store_cases.specs.declared.seat.Seat.{Seat}
+use Rattle.cx_store_cases.specs.declared.stop.Stop.{Stop}
 use Rattle.cx_store_cases.specs.Seats.{IsTold, IsSeat, IsClassSeat, HasPart, HasElems}
 
 -- a form that is told is that form
@@ -74,14 +73,6 @@ module _ {P : Type 0} (t : Tables) (os : Objects) (path : P → Path) where
   pub elems : (s : Seat P) (of : TypeId) (n i : ℕ) (r : TypeRow) → IsSeat t os path s → s.kind ≡ Some (kind.Array of n) → i ≤ n → slice_get t.rows of.0 ≡ Some r → HasElems t os path s i r.kind
   elems s of n i r h e l g = record { row = h.row; is_row = h.is_row; of = of; number = n; is_array = seat-told s (kind.Array of n) h e; few = l; element = r; is_element = g; is_kind = refl }
 
-  -- what the trait asks
-  has : (o : Option TypeRow) (at : Step) (r w : TypeRow) → o ≡ Some r → row_part t r at ≡ Some w → IsOf (λ q. is_some (row_part t q at) ≡ true) o
-  has None at r w e p = absurd (cc)
-  has (Some q) at r w e p = ap is_some (subst (λ z. row_part t z at ≡ Some w) (sym (some_inj q r e)) p)
-
-  pub part-there : (s : Seat P) (at : Step) (k : TypeKind) → HasPart t os path s at k → IsOf (λ q. is_some (row_part t q at) ≡ true) (row_of t os (path s.place))
-  part-there s at k h = has (row_of t os (path s.place)) at h.row h.part h.is_row h.is_part
-
   pub part-known : (s : Seat P) (at : Step) (k : TypeKind) → HasPart t os path s at k → Knows t os (path s.place)
   part-known s at k h = known-row t os (path s.place) h.row h.is_row
 
@@ -97,17 +88,16 @@ module _ {P : Type 0} (t : Tables) (os : Objects) (path : P → Path) where
         is_told = subst (λ o. IsTold o h.part.kind) (sym n) h.is_kind;
       }
 
+  -- what a call gives is such a place where each that it may give is one
+  pub placed-seat : (answer : Result P Rule) (r : Result (Seat P) Stop) (k : Option TypeKind) → IfOk r (λ s. answer ≡ Ok s.place) → IfOk r (λ (s : Seat P). s.kind ≡ k) → ((s : Seat P) → answer ≡ Ok s.place → s.kind ≡ k → IsSeat t os path s) → IfOk r (IsSeat t os path)
+  placed-seat answer (Ok s) k a b f = f s a b
+  placed-seat answer (Err e) k a b f = tt
+
   pub field-seat : (s new : Seat P) (i : ℕ) (k : TypeKind) → HasPart t os path s (step.Field i) k → to_field t os (path s.place) i ≡ Ok (path new.place) → new.kind ≡ Some k → IsSeat t os path new
   field-seat s new i k h e n = part-seat s new (step.Field i) k h e n
 
   pub base-seat : (s new : Seat P) (i : ℕ) (k : TypeKind) → HasPart t os path s (step.Base i) k → to_base t os (path s.place) i ≡ Ok (path new.place) → new.kind ≡ Some k → IsSeat t os path new
   base-seat s new i k h e n = part-seat s new (step.Base i) k h e n
-
-  pub elems-known : (s : Seat P) (i : ℕ) (k : TypeKind) → HasElems t os path s i k → Knows t os (path s.place)
-  elems-known s i k h = known-row t os (path s.place) h.row h.is_row
-
-  pub elems-there : (s : Seat P) (i : ℕ) (k : TypeKind) → HasElems t os path s i k → HasElem t os (path s.place) i
-  elems-there s i k h = subst (λ o. IsOf (λ (r : TypeRow). IsUpTo i (elements r.kind)) o) (sym h.is_row) (subst (λ w. IsUpTo i (elements w)) (sym h.is_array) h.few)
 
   pub elem-seat : (s new : Seat P) (i : ℕ) (k : TypeKind) → HasElems t os path s i k → to_elem t os (path s.place) i ≡ Ok (path new.place) → new.kind ≡ Some k → IsSeat t os path new
   elem-seat s new i k h e n = record {

@@ -1,4 +1,4 @@
--- What is known of the places that a case has been given, and of what its objects hold.
+-- What is known of the places that a case has names for, and of what its objects hold.
 use Rattle.std.specs.Prelude.{◌≡◌, ℕ, ◌<◌, ◌≤◌, ◌⊎◌, List, Option, None, Some, slice_get}
 use Rattle.cx_type_defs.specs.declared.ids.Step.{Step}
 use Rattle.cx_type_defs.specs.declared.ids.TypeId.{TypeId}
@@ -11,9 +11,9 @@ use Rattle.cx_type_defs.specs.Tables.{Tables, body_at}
 use Rattle.cx_state.specs.declared.kind.Scalar.{Scalar}
 use Rattle.cx_state.specs.declared.kind.Scalar.TheVariants as scalar
 use Rattle.cx_state.specs.Objects.{Path, Leaf, Object, Objects, below}
-use Rattle.cx_state.specs.Places.{row_part, row_of}
+use Rattle.cx_state.specs.Places.{row_part, row_of, whole_kind}
 use Rattle.cx_store_cases.specs.declared.seat.Seat.{Seat}
-use Rattle.cx_store_cases.specs.declared.seat.Named.{Named}
+use Rattle.cx_store_cases.specs.declared.seat.Desk.{Desk}
 
 -- the form of the type there is told so, where it is told
 abbrev pub IsTold : Option TypeKind → TypeKind → Type 0
@@ -26,16 +26,29 @@ pub record IsSeat {P : Type 0} (t : Tables) (os : Objects) (path : P → Path) (
   pub is_row : row_of t os (path s.place) ≡ Some row
   pub is_told : IsTold s.kind row.kind
 
-pub record AreSeats {P : Type 0} (t : Tables) (os : Objects) (path : P → Path) (ss : List (Named P)) : Type 0 where
-  pub each : (i : ℕ) (n : Named P) → slice_get ss i ≡ Some n → IsSeat t os path n.seat
+pub record AreSeats {P : Type 0} (t : Tables) (os : Objects) (path : P → Path) (ss : List (Seat P)) : Type 0 where
+  pub each : (i : ℕ) (s : Seat P) → slice_get ss i ≡ Some s → IsSeat t os path s
 
--- they are all in objects with numbers below the mark
-pub record AreBelow {P : Type 0} (mark : ℕ) (path : P → Path) (ss : List (Named P)) : Type 0 where
-  pub below_mark : (i : ℕ) (n : Named P) → slice_get ss i ≡ Some n → (path n.seat.place).object < mark
-
--- a place that an object holds is in an object that is no newer, or in one with a number below the mark
+-- a place that an object holds is in one with a number below the mark
 pub record HeldBelow (os : Objects) (mark : ℕ) : Type 0 where
-  pub held : (n : ℕ) (o : Object) (ss : List Step) (p : Path) → slice_get os n ≡ Some o → below o.tree ss ≡ Some (Leaf (scalar.Place p)) → (p.object ≤ n) ⊎ (p.object < mark)
+  pub held : (n : ℕ) (o : Object) (ss : List Step) (p : Path) → slice_get os n ≡ Some o → below o.tree ss ≡ Some (Leaf (scalar.Place p)) → p.object < mark
+
+-- what a case has at hand stands: the store fits, its places are known, and its objects hold places as the mark says
+pub record Stands {P : Type 0} (fit : Type 0) (t : Tables) (os : Objects) (path : P → Path) (d : Desk P) : Type 0 where
+  pub fits : fit
+  pub seats : AreSeats t os path d.seats.items
+  pub held : HeldBelow os d.safe
+
+-- they are known places in objects with numbers below the mark
+pub record AreKept {P : Type 0} (t : Tables) (os : Objects) (path : P → Path) (mark : ℕ) (ss : List (Seat P)) : Type 0 where
+  pub seats : AreSeats t os path ss
+  pub low : (i : ℕ) (s : Seat P) → slice_get ss i ≡ Some s → (path s.place).object < mark
+
+-- the form of a whole object of that type and count
+pub record IsWholeKind (t : Tables) (ty : TypeId) (count : Option ℕ) (k : TypeKind) : Type 0 where
+  pub row : TypeRow
+  pub is_row : slice_get t.rows ty.0 ≡ Some row
+  pub is_kind : k ≡ whole_kind count ty row.kind
 
 -- there is a class, complete
 pub record IsClassSeat (t : Tables) (k : Option TypeKind) (c : ClassId) : Type 0 where
@@ -81,7 +94,14 @@ abbrev pub IsExact : TypeKind → Option TypeKind → Type 0
 IsExact k None = Unit {0}
 IsExact k (Some l) = (l ≡ k) × IsOwn k
 
--- what is written into this object may be written so
-abbrev pub IsSafely : ℕ → ℕ → Scalar Path → Type 0
-IsSafely n mark (scalar.Place p) = (p.object ≤ n) ⊎ (p.object < mark)
-IsSafely n mark _ = Unit {0}
+-- a pointer to void leads anywhere, one to an integer or class to that alone
+abbrev pub MayLead : TypeKind → TypeKind → Type 0
+MayLead kind.Void k = Unit {0}
+MayLead (kind.Int ty) k = k ≡ kind.Int ty
+MayLead (kind.Class c) k = k ≡ kind.Class c
+MayLead _ k = ⊥
+
+-- a place that a scalar holds is in an object with a number below the mark
+abbrev pub IsBelow : ℕ → Scalar Path → Type 0
+IsBelow mark (scalar.Place p) = p.object < mark
+IsBelow mark _ = Unit {0}

@@ -1,55 +1,69 @@
 //! Making objects and cutting them off.
-ghost use Rattle.std.specs.Prelude.{◌≡◌, ◌<◌, ◌≤◌, ◌*◌, true, length, unwrap_or, [], IfOk};
+ghost use Rattle.std.specs.Prelude.{◌≡◌, ◌<◌, true, length, [], IfOk};
 ghost use Rattle.cx_store.specs.Stores.{IsWhole};
-ghost use Rattle.cx_store_cases.specs.Seats.{IsSeat, AreSeats, AreBelow};
-ghost use Rattle.cx_store_cases.specs.Desks.{Stands, IsWholeKind, AreKept};
+ghost use Rattle.cx_store_cases.specs.Seats.{IsSeat, AreSeats, Stands, AreKept, IsWholeKind};
 
-use crate::desk::Desk;
-use crate::seat::{Named, Seat};
+use crate::sample::Sample;
+use crate::seat::{Desk, Seat};
 use crate::stop::Stop;
+use crate::words::{BIRTHS, KINDS, choice, number, word};
 use cx_store::{Birth, Kind, Store, StoreAnswer, StoreMark};
 use cx_types::{TypeId, TypeKind, Types};
 use std::alloc::Global;
 
-/// What is made.
-#[derive(Clone, Copy, Debug)]
-pub struct Making {
-    pub ty: TypeId,
-    pub count: Option<u32>,
-    pub kind: Kind,
-    pub konst: bool,
-    pub birth: Birth,
+/// What is made of a type.
+#[derive(Clone, Copy)]
+struct Making {
+    count: Option<u32>,
+    kind: Kind,
+    konst: bool,
+    birth: Birth,
 }
 
-fn many(count: Option<u32>) -> u32
-    ensures { result ≡ unwrap_or count 1 }
-{
-    match count {
-        Some(many) => many,
-        None => 1,
+/// What is made with one more word: a kind, a length as `x3`, `const` or a birth.
+fn with_word(made: Making, text: &str) -> Result<Making, Stop> {
+    if let Ok(kind) = choice(&KINDS, text) {
+        return Ok(Making { kind, ..made });
     }
+    if let Some(count) = text.strip_prefix('x') {
+        return Ok(Making {
+            count: Some(number(count)?),
+            kind: Kind::HeapArray,
+            ..made
+        });
+    }
+    if text == "const" {
+        return Ok(Making {
+            konst: true,
+            ..made
+        });
+    }
+    Ok(Making {
+        birth: choice(&BIRTHS, text)?,
+        ..made
+    })
 }
 
-/// So many objects of so many cells aren't too large.
-fn are_few(many: u32, cells: u32) -> bool
-    ensures { result ≡ true → many * cells ≤ 1073741824 }
-{
-    u64::from(many) * u64::from(cells) <= 1_073_741_824
+fn made_of(words: &[&str]) -> Result<Making, Stop> {
+    let mut made = Making {
+        count: None,
+        kind: Kind::Auto,
+        konst: false,
+        birth: Birth::Here,
+    };
+    for text in words.iter().skip(3) {
+        made = with_word(made, text)?;
+    }
+    Ok(made)
 }
 
-fn is_less(number: u32, mark: u32) -> bool
-    ensures { result ≡ true → number < mark }
-{
-    number < mark
-}
-
-/// Whether the type is complete, and so many of it aren't too large.
+/// Whether the type is complete, and so many of it have no more than 2^30 cells.
 fn is_whole(types: &Types, ty: TypeId, count: Option<u32>) -> bool
     requires { ty.0 < length types.now.rows }
     ensures { result ≡ true → IsWhole types.now ty count }
 {
     match types.cells(ty) {
-        Ok(cells) => are_few(many(count), cells),
+        Ok(cells) => u64::from(count.unwrap_or(1)) * u64::from(cells) <= 1_073_741_824,
         Err(_) => false,
     }
 }
@@ -65,34 +79,28 @@ fn whole_kind(types: &Types, ty: TypeId, count: Option<u32>) -> TypeKind
     }
 }
 
-fn stop_of(answer: StoreAnswer) -> Stop {
-    match answer {
-        StoreAnswer::Rule(rule) => Stop::Rule(rule),
-        StoreAnswer::Memory => Stop::Memory,
-    }
-}
-
 /// The place of a new object.
 pub(crate) fn make_at<S: Store>(
+    sample: &Sample,
     store: &mut S,
-    types: &Types,
     desk: &Desk<S::Place>,
-    made: Making,
+    name: u8,
+    words: &[&str],
 ) -> Result<Seat<S::Place>, Stop>
-    requires fits { S.fits store.old types.now }
-    requires stands { Stands types.now (S.objects store.old) (S.path store.old) desk.now.seats.items desk.now.safe }
-    requires known { made.ty.0 < length types.now.rows }
-    ensures fit { S.fits store.new types.now }
-    ensures stands { Stands types.now (S.objects store.new) (S.path store.new) desk.now.seats.items desk.now.safe }
-    ensures seat { IfOk result (λ s. IsSeat types.now (S.objects store.new) (S.path store.new) s) }
+    requires { Stands (S.fits store.old sample.now.types) sample.now.types (S.objects store.old) (S.path store.old) desk.now }
+    ensures stands { Stands (S.fits store.new sample.now.types) sample.now.types (S.objects store.new) (S.path store.new) desk.now }
+    ensures seat { IfOk result (λ s. IsSeat sample.now.types (S.objects store.new) (S.path store.new) s) }
 {
-    if !is_whole(types, made.ty, made.count) {
+    let types = &sample.types;
+    let ty = sample.named(word(words, 2))?;
+    let made = made_of(words)?;
+    if !is_whole(types, ty, made.count) {
         return Err(Stop::NotAsked);
     }
-    let kind = whole_kind(types, made.ty, made.count);
+    let kind = whole_kind(types, ty, made.count);
     match store.make(
         types,
-        made.ty,
+        ty,
         made.count,
         made.kind,
         made.konst,
@@ -100,36 +108,30 @@ pub(crate) fn make_at<S: Store>(
         &desk.limits,
     ) {
         Ok(place) => Ok(Seat {
+            name,
             place,
             kind: Some(kind),
         }),
-        Err(answer) => Err(stop_of(answer)),
+        Err(StoreAnswer::Rule(rule)) => Err(Stop::Rule(rule)),
+        Err(StoreAnswer::Memory) => Err(Stop::Memory),
     }
-}
-
-fn is_below<S: Store>(store: &S, types: &Types, at: Seat<S::Place>, mark: u32) -> bool
-    requires { IsSeat types.now (S.objects store.now) (S.path store.now) at }
-    ensures { result ≡ true → (S.path store.now at.place).object < mark }
-{
-    let view = store.root(at.place);
-    is_less(view.number, mark)
 }
 
 fn keep<S: Store>(
     store: &S,
     types: &Types,
-    kept: &mut Vec<Named<S::Place>>,
-    named: Named<S::Place>,
+    kept: &mut Vec<Seat<S::Place>>,
+    seat: Seat<S::Place>,
     mark: u32,
 ) -> Result<(), Stop>
     requires kept { AreKept types.now (S.objects store.now) (S.path store.now) mark kept.old.items }
-    requires seat { IsSeat types.now (S.objects store.now) (S.path store.now) named.seat }
+    requires seat { IsSeat types.now (S.objects store.now) (S.path store.now) seat }
     ensures { AreKept types.now (S.objects store.now) (S.path store.now) mark kept.new.items }
 {
-    if !is_below(store, types, named.seat, mark) {
+    if store.root(seat.place).number >= mark {
         return Ok(());
     }
-    match kept.push(named) {
+    match kept.push(seat) {
         Ok(()) => Ok(()),
         Err(_) => Err(Stop::Memory),
     }
@@ -140,15 +142,15 @@ fn kept_below<S: Store>(
     alloc: Global,
     store: &S,
     types: &Types,
-    seats: &[Named<S::Place>],
+    seats: &[Seat<S::Place>],
     mark: u32,
-) -> Result<Vec<Named<S::Place>>, Stop>
+) -> Result<Vec<Seat<S::Place>>, Stop>
     requires { AreSeats types.now (S.objects store.now) (S.path store.now) seats.now }
     ensures { IfOk result (λ v. AreKept types.now (S.objects store.now) (S.path store.now) mark v.items) }
 {
     let mut kept = Vec::new(alloc);
-    for named in seats {
-        keep(store, types, &mut kept, *named, mark)?;
+    for seat in seats {
+        keep(store, types, &mut kept, *seat, mark)?;
     }
     Ok(kept)
 }
@@ -159,13 +161,12 @@ pub(crate) fn cut_at<S: Store>(
     store: &mut S,
     types: &Types,
     desk: &mut Desk<S::Place>,
-    mark: u32,
+    text: &str,
 ) -> Result<(), Stop>
-    requires fits { S.fits store.old types.now }
-    requires stands { Stands types.now (S.objects store.old) (S.path store.old) desk.old.seats.items desk.old.safe }
-    ensures fit { S.fits store.new types.now }
-    ensures stands { Stands types.now (S.objects store.new) (S.path store.new) desk.new.seats.items desk.new.safe }
+    requires { Stands (S.fits store.old types.now) types.now (S.objects store.old) (S.path store.old) desk.old }
+    ensures { Stands (S.fits store.new types.now) types.now (S.objects store.new) (S.path store.new) desk.new }
 {
+    let mark = number(text)?;
     if mark < desk.safe || mark > store.mark().objects {
         return Err(Stop::NotAsked);
     }

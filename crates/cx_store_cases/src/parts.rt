@@ -1,22 +1,14 @@
-//! The places of members, bases and elements.
-ghost use Rattle.std.specs.Prelude.{◌≡◌, IfOk, Some};
+//! The forms of members, bases and elements.
+ghost use Rattle.std.specs.Prelude.{◌≡◌, true, IfOk, Some};
 ghost use Rattle.cx_type_defs.specs.declared.ids.Step.TheVariants as step;
-ghost use Rattle.cx_store_cases.specs.Seats.{IsSeat, IsClassSeat, HasPart, HasElems};
+ghost use Rattle.cx_state.specs.Forms.{HoldsValue};
+ghost use Rattle.cx_store.specs.Stores.{IsClassAt, IsUnionAt};
+ghost use Rattle.cx_store_cases.specs.Seats.{IsSeat, IsClassSeat, HasPart, HasElems, IsExact, IsLed};
 
-use crate::seat::Seat;
+use crate::seat::{Seat, told};
 use crate::stop::Stop;
 use cx_store::Store;
-use cx_types::{ClassId, TypeKind, Types};
-
-/// The form that is told.
-pub(crate) fn told(kind: Option<TypeKind>) -> Result<TypeKind, Stop>
-    ensures { IfOk result (λ k. kind ≡ Some k) }
-{
-    match kind {
-        Some(kind) => Ok(kind),
-        None => Err(Stop::NotAsked),
-    }
-}
+use cx_types::{ClassId, ClassKey, TypeKind, Types};
 
 /// The class of what is at a place.
 pub(crate) fn class_of<S: Store>(
@@ -53,7 +45,8 @@ pub(crate) fn field_kind<S: Store>(
     Ok(types.row(types.field_at(class, index)).kind)
 }
 
-fn base_kind<S: Store>(
+/// The form of a base, where there is one.
+pub(crate) fn base_kind<S: Store>(
     store: &S,
     types: &Types,
     at: Seat<S::Place>,
@@ -70,7 +63,8 @@ fn base_kind<S: Store>(
     Ok(TypeKind::Class(types.base_at(class, index)))
 }
 
-fn elem_kind<S: Store>(
+/// The form of an array's elements, where it has at least so many.
+pub(crate) fn elem_kind<S: Store>(
     store: &S,
     types: &Types,
     at: Seat<S::Place>,
@@ -92,65 +86,77 @@ fn elem_kind<S: Store>(
     }
 }
 
-/// The place of a member.
-pub(crate) fn to_field<S: Store>(
+/// The class of what is at a place, which is no union.
+pub(crate) fn plain_class<S: Store>(
     store: &S,
     types: &Types,
     at: Seat<S::Place>,
-    index: u32,
-) -> Result<Seat<S::Place>, Stop>
+) -> Result<ClassId, Stop>
     requires fits { S.fits store.now types.now }
     requires seat { IsSeat types.now (S.objects store.now) (S.path store.now) at }
-    ensures { IfOk result (λ s. IsSeat types.now (S.objects store.now) (S.path store.now) s) }
+    ensures { IfOk result (λ _. IsClassAt types.now (S.objects store.now) (S.path store.now at.place)) }
 {
-    let kind = field_kind(store, types, at, index)?;
-    match store.field(types, at.place, index) {
-        Ok(place) => Ok(Seat {
-            place,
-            kind: Some(kind),
-        }),
-        Err(rule) => Err(Stop::Rule(rule)),
+    let class = class_of(store, types, at)?;
+    match types.key(class) {
+        ClassKey::Union => Err(Stop::NotAsked),
+        ClassKey::Struct => Ok(class),
+        ClassKey::Class => Ok(class),
     }
 }
 
-/// The place of a base.
-pub(crate) fn to_base<S: Store>(
+/// The union that is at a place.
+pub(crate) fn union_of<S: Store>(
     store: &S,
     types: &Types,
     at: Seat<S::Place>,
-    index: u32,
-) -> Result<Seat<S::Place>, Stop>
+) -> Result<ClassId, Stop>
     requires fits { S.fits store.now types.now }
     requires seat { IsSeat types.now (S.objects store.now) (S.path store.now) at }
-    ensures { IfOk result (λ s. IsSeat types.now (S.objects store.now) (S.path store.now) s) }
+    ensures { IfOk result (λ _. IsUnionAt types.now (S.objects store.now) (S.path store.now at.place)) }
 {
-    let kind = base_kind(store, types, at, index)?;
-    match store.base(types, at.place, index) {
-        Ok(place) => Ok(Seat {
-            place,
-            kind: Some(kind),
-        }),
-        Err(rule) => Err(Stop::Rule(rule)),
+    let class = class_of(store, types, at)?;
+    match types.key(class) {
+        ClassKey::Union => Ok(class),
+        ClassKey::Struct => Err(Stop::NotAsked),
+        ClassKey::Class => Err(Stop::NotAsked),
     }
 }
 
-/// The place of an element, or past the last one.
-pub(crate) fn to_elem<S: Store>(
+/// Whether what is of this form is one value.
+pub(crate) fn is_scalar(kind: TypeKind) -> bool
+    ensures { result ≡ true → HoldsValue kind }
+{
+    !matches!(
+        kind,
+        TypeKind::Void | TypeKind::Array(_, _) | TypeKind::Class(_)
+    )
+}
+
+/// The form of what a pointer leads to, where it tells that form exactly.
+pub(crate) fn exact(kind: TypeKind) -> Option<TypeKind>
+    ensures { IsExact kind result }
+{
+    match kind {
+        TypeKind::Int(ty) => Some(TypeKind::Int(ty)),
+        TypeKind::Class(class) => Some(TypeKind::Class(class)),
+        _ => None,
+    }
+}
+
+/// The type that a pointer or reference leads to.
+pub(crate) fn pointee<S: Store>(
     store: &S,
     types: &Types,
     at: Seat<S::Place>,
-    index: u32,
-) -> Result<Seat<S::Place>, Stop>
+) -> Result<TypeKind, Stop>
     requires fits { S.fits store.now types.now }
     requires seat { IsSeat types.now (S.objects store.now) (S.path store.now) at }
-    ensures { IfOk result (λ s. IsSeat types.now (S.objects store.now) (S.path store.now) s) }
+    ensures { IfOk result (λ k. IsLed types.now at.kind k) }
 {
-    let kind = elem_kind(store, types, at, index)?;
-    match store.elem(types, at.place, index) {
-        Ok(place) => Ok(Seat {
-            place,
-            kind: Some(kind),
-        }),
-        Err(rule) => Err(Stop::Rule(rule)),
+    let kind = told(at.kind)?;
+    match kind {
+        TypeKind::Pointer(to) => Ok(types.row(to).kind),
+        TypeKind::Reference(to) => Ok(types.row(to).kind),
+        _ => Err(Stop::NotAsked),
     }
 }

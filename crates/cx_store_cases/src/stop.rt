@@ -4,7 +4,7 @@ use cx_base::Rule;
 use std::alloc::AllocError;
 
 /// Why a call gives nothing.
-#[derive(Clone, Copy, Debug, PartialEq, Eq)]
+#[derive(Clone, Copy)]
 pub enum Stop {
     /// The call breaks this rule.
     Rule(Rule),
@@ -17,4 +17,9 @@ impl From<AllocError> for Stop {
     fn from(_: AllocError) -> Stop {
         Stop::Memory
     }
+}
+
+/// The answer of a call that gives nothing but a rule.
+pub(crate) fn done(answer: Result<(), Rule>) -> Result<(), Stop> {
+    answer.map_err(Stop::Rule)
 }

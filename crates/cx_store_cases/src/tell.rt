@@ -1,12 +1,14 @@
 //! What calls answer, as text.
 ghost use Rattle.cx_state.specs.Forms.{Knows, KnowsIn};
 ghost use Rattle.cx_store.specs.Stores.{seen};
-ghost use Rattle.cx_store_cases.specs.Seats.{IsSeat};
+ghost use Rattle.cx_store_cases.specs.Seats.{IsSeat, Stands};
 
-use crate::reach::{decider, load_at, union_of};
+use crate::parts::{plain_class, union_of};
+use crate::reach::load_at;
 use crate::sample::Sample;
-use crate::seat::Seat;
+use crate::seat::{Desk, Seat, find};
 use crate::stop::Stop;
+use crate::words::{number, word};
 use cx_base::{Rule, rule_tag};
 use cx_store::{Birth, Kind, Scalar, Store};
 use cx_types::{Step, Types};
@@ -40,18 +42,12 @@ fn birth_word(birth: Birth) -> &'static str {
 }
 
 fn step_text(alloc: Global, step: Step) -> Result<String, Stop> {
-    match step {
-        Step::Base(i) => Ok(format!(in alloc; "b{i}")?),
-        Step::Field(i) => Ok(format!(in alloc; "f{i}")?),
-        Step::Elem(i) => Ok(format!(in alloc; "e{i}")?),
-    }
-}
-
-fn length_text(alloc: Global, length: Option<u32>) -> Result<String, Stop> {
-    match length {
-        Some(count) => Ok(format!(in alloc; " x{count}")?),
-        None => Ok(String::new(alloc)),
-    }
+    let text = match step {
+        Step::Base(i) => format!(in alloc; "b{i}"),
+        Step::Field(i) => format!(in alloc; "f{i}"),
+        Step::Elem(i) => format!(in alloc; "e{i}"),
+    };
+    Ok(text?)
 }
 
 /// A place: its object's number, its steps, and a mark where it is past an end.
@@ -109,7 +105,7 @@ fn value_text<S: Store>(
 }
 
 /// What is told of the object that a place is in.
-pub(crate) fn root_text<S: Store>(
+fn root_text<S: Store>(
     alloc: Global,
     store: &S,
     types: &Types,
@@ -120,48 +116,69 @@ pub(crate) fn root_text<S: Store>(
 {
     let view = store.root(at.place);
     let place = path_text(alloc, store, types, view.place)?;
-    let length = length_text(alloc, view.length)?;
     let number = view.number;
     let kind = kind_word(view.kind);
     let birth = birth_word(view.birth);
     let released = if view.released { " released" } else { "" };
     let past = if view.past { " past" } else { "" };
-    Ok(format!(in alloc; "{number} {kind} {birth}{released}{length}{past} at {place}")?)
+    let text = match view.length {
+        Some(n) => format!(in alloc; "{number} {kind} {birth}{released} x{n}{past} at {place}"),
+        None => format!(in alloc; "{number} {kind} {birth}{released}{past} at {place}"),
+    };
+    Ok(text?)
 }
 
-/// Step k of a place.
-pub(crate) fn nth_text<S: Store>(
+/// The class that decides what a virtual call reaches, and its object.
+fn dynamic_text<S: Store>(
     alloc: Global,
+    sample: &Sample,
     store: &S,
-    types: &Types,
     at: Seat<S::Place>,
-    k: u32,
 ) -> Result<String, Stop>
-    requires fits { S.fits store.now types.now }
-    requires seat { IsSeat types.now (S.objects store.now) (S.path store.now) at }
+    requires fits { S.fits store.now sample.now.types }
+    requires seat { IsSeat sample.now.types (S.objects store.now) (S.path store.now) at }
 {
-    match store.step(types, at.place, k) {
-        Some(step) => step_text(alloc, step),
-        None => Ok(String::from_str(alloc, "none")?),
+    plain_class(store, &sample.types, at)?;
+    match store.dynamic_class(&sample.types, at.place) {
+        Ok((class, place)) => {
+            let path = path_text(alloc, store, &sample.types, place)?;
+            let word = sample.class_word(class);
+            Ok(format!(in alloc; "{word} {path}")?)
+        }
+        Err(rule) => Err(Stop::Rule(rule)),
     }
 }
 
-/// The value at a place.
-pub(crate) fn load_text<S: Store>(
+/// How two places compare.
+fn compared<S: Store>(
     alloc: Global,
     store: &S,
     types: &Types,
-    at: Seat<S::Place>,
+    verb: &str,
+    a: Seat<S::Place>,
+    b: Seat<S::Place>,
 ) -> Result<String, Stop>
     requires fits { S.fits store.now types.now }
-    requires seat { IsSeat types.now (S.objects store.now) (S.path store.now) at }
+    requires left { IsSeat types.now (S.objects store.now) (S.path store.now) a }
+    requires right { IsSeat types.now (S.objects store.now) (S.path store.now) b }
 {
-    let value = load_at(store, types, at)?;
-    value_text(alloc, store, types, value)
+    let told = match verb {
+        "distance" => match store.distance(types, a.place, b.place) {
+            Ok(number) => return Ok(format!(in alloc; "{number}")?),
+            Err(rule) => Err(rule),
+        },
+        "equal" => store.equal(types, a.place, b.place),
+        "less" => store.less(types, a.place, b.place),
+        _ => return Err(Stop::NotAsked),
+    };
+    match told {
+        Ok(holds) => Ok(format!(in alloc; "{holds}")?),
+        Err(rule) => Err(Stop::Rule(rule)),
+    }
 }
 
 /// The active member at a place.
-pub(crate) fn active_text<S: Store>(
+fn active_text<S: Store>(
     alloc: Global,
     store: &S,
     types: &Types,
@@ -178,67 +195,46 @@ pub(crate) fn active_text<S: Store>(
     }
 }
 
-/// Whether a member function may be called.
-pub(crate) fn call_text<S: Store>(
-    alloc: Global,
-    store: &S,
-    types: &Types,
-    at: Seat<S::Place>,
-) -> Result<String, Stop>
-    requires fits { S.fits store.now types.now }
-    requires seat { IsSeat types.now (S.objects store.now) (S.path store.now) at }
-{
-    match store.call_on(types, at.place) {
-        Ok(()) => Ok(String::from_str(alloc, "ok")?),
-        Err(rule) => Err(Stop::Rule(rule)),
-    }
-}
-
-/// The class that decides what a virtual call reaches, and its object.
-pub(crate) fn dynamic_text<S: Store>(
+/// A call that only tells: `VERB PLACE ..`, or `cells` and `mark`, which tell of all objects.
+pub(crate) fn tell<S: Store>(
     alloc: Global,
     sample: &Sample,
     store: &S,
-    at: Seat<S::Place>,
+    desk: &Desk<S::Place>,
+    words: &[&str],
 ) -> Result<String, Stop>
-    requires fits { S.fits store.now sample.now.types }
-    requires seat { IsSeat sample.now.types (S.objects store.now) (S.path store.now) at }
+    requires { Stands (S.fits store.now sample.now.types) sample.now.types (S.objects store.now) (S.path store.now) desk.now }
 {
-    let types = sample.types();
-    let found = decider(store, types, at)?;
-    let path = path_text(alloc, store, types, found.1.place)?;
-    match sample.class_word(found.0) {
-        Some(word) => Ok(format!(in alloc; "{word} {path}")?),
-        None => Err(Stop::NotAsked),
+    let types = &sample.types;
+    let verb = word(words, 0);
+    if verb == "cells" || verb == "mark" {
+        let count = if verb == "cells" {
+            store.live_cells()
+        } else {
+            store.mark().objects
+        };
+        return Ok(format!(in alloc; "{count}")?);
     }
-}
-
-/// How two places compare.
-pub(crate) fn compare_text<S: Store>(
-    alloc: Global,
-    store: &S,
-    types: &Types,
-    verb: &str,
-    a: Seat<S::Place>,
-    b: Seat<S::Place>,
-) -> Result<String, Stop>
-    requires fits { S.fits store.now types.now }
-    requires left { IsSeat types.now (S.objects store.now) (S.path store.now) a }
-    requires right { IsSeat types.now (S.objects store.now) (S.path store.now) b }
-{
+    let at = find(store, types, desk, word(words, 1))?;
     match verb {
-        "distance" => match store.distance(types, a.place, b.place) {
-            Ok(number) => Ok(format!(in alloc; "{number}")?),
+        "root" => root_text(alloc, store, types, at),
+        "step" => match store.step(types, at.place, number(word(words, 2))?) {
+            Some(step) => step_text(alloc, step),
+            None => Ok(String::from_str(alloc, "none")?),
+        },
+        "load" => {
+            let value = load_at(store, types, at)?;
+            value_text(alloc, store, types, value)
+        }
+        "active" => active_text(alloc, store, types, at),
+        "call" => match store.call_on(types, at.place) {
+            Ok(()) => Ok(String::from_str(alloc, "ok")?),
             Err(rule) => Err(Stop::Rule(rule)),
         },
-        "equal" => match store.equal(types, a.place, b.place) {
-            Ok(same) => Ok(format!(in alloc; "{same}")?),
-            Err(rule) => Err(Stop::Rule(rule)),
-        },
-        "less" => match store.less(types, a.place, b.place) {
-            Ok(before) => Ok(format!(in alloc; "{before}")?),
-            Err(rule) => Err(Stop::Rule(rule)),
-        },
-        _ => Err(Stop::NotAsked),
+        "dynamic" => dynamic_text(alloc, sample, store, at),
+        _ => {
+            let other = find(store, types, desk, word(words, 2))?;
+            compared(alloc, store, types, verb, at, other)
+        }
     }
 }

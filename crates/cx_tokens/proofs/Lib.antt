@@ -6,4 +6,6 @@ pub mod Fit
 pub mod Stepping
 pub mod Cuts
 pub mod Reach
+pub mod EachKind
 pub mod Examples
+pub mod Worked

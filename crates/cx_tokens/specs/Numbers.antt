@@ -20,17 +20,21 @@ is_sign b = b == 43 || b == 45
 abbrev pub is_exponent : ℕ → Bool
 is_exponent b = (b == 101 || b == 69) || (b == 112 || b == 80)
 
--- A run goes on, behind the byte `last`, with letters, digits, `_`, points, a `'` before a letter, digit or `_`, and a sign behind an exponent's letter.
-abbrev pub goes_on : ℕ → List ℕ → Bool
-goes_on last rest = is_name_byte (byte_at rest 0) || (byte_at rest 0 == 46
-    || ((byte_at rest 0 == 39 && is_name_byte (byte_at rest 1)) || (is_sign (byte_at rest 0) && is_exponent last)))
+-- A sign goes on behind an exponent's letter, unless a `'` stands directly before that letter.
+abbrev pub takes_sign : ℕ → ℕ → Bool
+takes_sign before last = is_exponent last && not (before == 39)
 
-abbrev pub number_more : ℕ → List ℕ → ℕ
-number_more last [] = 0
-number_more last (b ∷ bytes) = if goes_on last (b ∷ bytes) then 1 + number_more b bytes else 0
+-- A run goes on, behind the bytes `before` and `last`, with letters, digits, `_`, points, a `'` before a letter, digit or `_`, and a sign behind an exponent's letter.
+abbrev pub goes_on : ℕ → ℕ → List ℕ → Bool
+goes_on before last rest = is_name_byte (byte_at rest 0) || (byte_at rest 0 == 46
+    || ((byte_at rest 0 == 39 && is_name_byte (byte_at rest 1)) || (is_sign (byte_at rest 0) && takes_sign before last)))
+
+abbrev pub number_more : ℕ → ℕ → List ℕ → ℕ
+number_more before last [] = 0
+number_more before last (b ∷ bytes) = if goes_on before last (b ∷ bytes) then 1 + number_more last b bytes else 0
 
 abbrev pub number_size : List ℕ → ℕ
-number_size rest = 1 + number_more (byte_at rest 0) (drop 1 rest)
+number_size rest = 1 + number_more 0 (byte_at rest 0) (drop 1 rest)
 
 -- 16 behind 0x, 2 behind 0b, 8 behind another 0, else 10
 abbrev pub radix_of : List ℕ → ℕ

@@ -28,6 +28,3 @@ pub enum LexAnswer {
     Fault(Diag),
     Memory,
 }
-
-#[cfg(test)]
-mod tests;

@@ -29,26 +29,28 @@ fn is_exponent(b: u8) -> bool
     (b == b'e' || b == b'E') || (b == b'p' || b == b'P')
 }
 
-fn goes_on(last: u8, rest: &[u8]) -> bool
-    ensures { result ≡ goes_on last rest.now }
+fn goes_on(before: u8, last: u8, rest: &[u8]) -> bool
+    ensures { result ≡ goes_on before last rest.now }
 {
     is_name_byte(byte_at(rest, 0))
         || (byte_at(rest, 0) == b'.'
             || ((byte_at(rest, 0) == b'\'' && is_name_byte(byte_at(rest, 1)))
-                || (is_sign(byte_at(rest, 0)) && is_exponent(last))))
+                || (is_sign(byte_at(rest, 0)) && (is_exponent(last) && !(before == b'\'')))))
 }
 
-// How many bytes go on with a run behind the byte `first`.
+// How many bytes go on with a run behind its first byte.
 fn number_more(first: u8, bytes: &[u8]) -> usize
-    ensures more { result ≡ number_more first bytes.now }
+    ensures more { result ≡ number_more 0 first bytes.now }
     ensures within { result ≤ length bytes.now }
 {
+    let mut before = 0;
     let mut last = first;
     let mut at = 0;
     'run: while at < bytes.len() {
-        if !goes_on(last, rest_from(bytes, at)) {
+        if !goes_on(before, last, rest_from(bytes, at)) {
             return at;
         }
+        before = last;
         last = bytes[at];
         at += 1;
     }

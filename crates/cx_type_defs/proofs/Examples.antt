@@ -1,5 +1,5 @@
 -- Small theorems on the definitions: what they give for a few types, by computation.
-use Rattle.std.proofs.Common.{◌≡◌, ℕ, ◌^◌, ◌-◌, true, false, List, [], ◌∷◌, Option, None, Some, Ok, Err, refl, pos, negsuc}
+use Rattle.std.proofs.Common.{◌≡◌, ℕ, zero, suc, ◌^◌, ◌-◌, true, false, List, [], ◌∷◌, Option, None, Some, Ok, Err, refl, pos, negsuc}
 use Rattle.cx_base.specs.declared.diag.Mark.{Mark}
 use Rattle.cx_base.specs.declared.rule.Rule.TheVariants as rule
 use Rattle.cx_base.specs.declared.int_type.IntType.TheVariants as int
@@ -15,8 +15,11 @@ use Rattle.cx_type_defs.specs.declared.decl.ClassFlags.{ClassFlags}
 use Rattle.cx_type_defs.specs.declared.decl.ClassDecl.{ClassDecl}
 use Rattle.cx_type_defs.specs.declared.decl.Field.{Field}
 use Rattle.cx_type_defs.specs.declared.answer.TypeAnswer.TheVariants as answer
+use Rattle.cx_ints.specs.Ranges.{least, greatest, is_signed, width}
 use Rattle.cx_type_defs.specs.Tables.{Tables, overrider}
 use Rattle.cx_type_defs.specs.Questions.{OfType, asked, looked, most_levels, depth_of, nodes_of, size_answer, align_answer, cells_answer, literal_answer}
+use Rattle.cx_type_defs.specs.Levels.{led_to}
+use Rattle.cx_type_defs.specs.Same.{Int, Pointer, Array, Const, form_within, form_of, SameType, SameAside, is_normal}
 use Rattle.cx_type_defs.specs.Refusals.{kind_refusal}
 use Rattle.cx_type_defs.specs.Enums.{first_from, field_values, type_values, underlying}
 use Rattle.cx_type_defs.specs.Slots.{slot_among}
@@ -115,6 +118,7 @@ unfolding first_from
 widest_field = refl
 
 fixed_bool : type_values int.Bool ≡ (pos 0, pos 1)
+unfolding least greatest is_signed width
 fixed_bool = refl
 
 -- the slots of bases that have two and three
@@ -127,4 +131,48 @@ slots_of_bases = (refl, refl, refl, refl, refl, refl)
 underlying_types :
     (underlying (negsuc (2 ^ 31 - 1)) (pos (2 ^ 31 - 1)) ≡ Some int.Int) × (underlying (pos 0) (pos (2 ^ 31)) ≡ Some int.UInt) × (underlying (negsuc 0) (pos (2 ^ 31)) ≡ Some int.Long)
     × (underlying (pos 0) (pos (2 ^ 63)) ≡ Some int.ULong) × (underlying (negsuc 0) (pos (2 ^ 63)) ≡ None) × (underlying (pos 0) (pos (2 ^ 64)) ≡ None)
+unfolding least greatest is_signed width
 underlying_types = (refl, refl, refl, refl, refl, refl)
+
+-- so many pointers, the first to the type of this number, each further one to the one before it
+abbrev pointers : ℕ → ℕ → List TypeRow
+pointers zero to = []
+pointers (suc n) to = row (kind.Pointer (ty to)) ∷ pointers n (suc to)
+
+-- a class that isn't complete, and 512 pointers on it
+abbrev stacked : Tables
+stacked = record { rows = row (kind.Class (record { 0 = 0 })) ∷ pointers 512 0; classes = record { name = []; key = key.Struct; body = None } ∷ []; enums = [] }
+
+-- the last of them has as many levels as a type may have, and is taken: 512 steps lead to the class, so that a walk of
+-- 512 types would not meet it
+most_pointers : asked depth_of stacked (OfType (ty 512)) ≡ Some 512
+unfolding asked looked most_levels
+most_pointers = refl
+
+class_behind_them : led_to stacked 512 (ty 512) ≡ Some (ty 0)
+unfolding led_to
+class_behind_them = refl
+
+-- int, const int, int[3], const int [3], an int[3] marked const, int*, const int*, int&
+abbrev marked : Tables
+marked = record {
+  rows = row (kind.Int int.Int) ∷ record { kind = kind.Int int.Int; konst = true } ∷ row (kind.Array (ty 0) 3) ∷ row (kind.Array (ty 1) 3) ∷ record { kind = kind.Array (ty 0) 3; konst = true } ∷ row (kind.Pointer (ty 0)) ∷ row (kind.Pointer (ty 1)) ∷ row (kind.Reference (ty 0)) ∷ row kind.Void ∷ [];
+  classes = [];
+  enums = [];
+}
+
+-- const of an array is const of its elements
+const_array : (SameType marked (ty 3) (ty 4)) × (form_of true marked (ty 2) ≡ Array (Int int.Int) 3) × (form_of true marked (ty 4) ≡ Array (Const (Int int.Int)) 3)
+unfolding form_of form_within
+const_array = (refl, refl, refl)
+
+-- pointers to int and to const int differ in const alone
+pointers_aside : (SameAside marked (kind.Pointer (ty 0)) (kind.Pointer (ty 1))) × (form_of true marked (ty 5) ≡ Pointer (Int int.Int)) × (form_of true marked (ty 6) ≡ Pointer (Const (Int int.Int)))
+unfolding form_of form_within
+pointers_aside = (refl, refl, refl)
+
+written_once :
+    (is_normal marked (record { kind = kind.Array (ty 0) 3; konst = true }) ≡ false) × (is_normal marked (record { kind = kind.Reference (ty 0); konst = true }) ≡ false)
+    × (is_normal marked (row (kind.Pointer (ty 7))) ≡ false) × (is_normal marked (row (kind.Reference (ty 7))) ≡ false) × (is_normal marked (row (kind.Reference (ty 8))) ≡ false)
+    × (is_normal marked (row (kind.Pointer (ty 8))) ≡ true) × (is_normal marked (record { kind = kind.Pointer (ty 0); konst = true }) ≡ true)
+written_once = (refl, refl, refl, refl, refl, refl, refl)

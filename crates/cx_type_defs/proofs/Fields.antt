@@ -89,6 +89,13 @@ first-least test (suc n) from k le lt =
     let l : k < first_from test n (from + 1) = subst (λ m. k < m) (first-later test n from _ refl f) lt in
     elim (least_or_more from k le) as (λ _. test k ≡ false) [ inl e ↦ ap test e ∙ f | inr h ↦ first-least test n (from + 1) k h l ])
 
+pub first-above : (test : ℕ → Bool) (n from : ℕ) → from ≤ first_from test n from
+first-above test zero from = let e = first-none test from in omega arith
+first-above test (suc n) from =
+    by_test (test from)
+    (λ t. let e = first-found test n from _ refl t in omega arith)
+    (λ f. let e = first-later test n from _ refl f in let l = first-above test n (from + 1) in omega arith)
+
 first-passes : (test : ℕ → Bool) (n from k : ℕ) → from ≤ k → k < from + n → test k ≡ true → test (first_from test n from) ≡ true
 first-passes test zero from k le lt t = absurd (omega arith)
 first-passes test (suc n) from k le lt t =

@@ -4,4 +4,8 @@ pub mod Levels
 pub mod Asked
 pub mod Fields
 pub mod Ranges
+pub mod Chains
+pub mod Forms
+pub mod Growing
+pub mod BodyLaws
 pub mod Examples

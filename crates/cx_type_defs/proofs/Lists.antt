@@ -2,7 +2,7 @@
 use Rattle.std.specs.Cmp.{IsEquivalence}
 use Rattle.std.specs.List.{IsDistinct, AllByRecursion}
 use Rattle.std.proofs.Common.{◌≡◌, ℕ, zero, suc, ◌<◌, ◌≤◌, Bool, true, false, true≢false, List, [], ◌∷◌, ◌++◌, length, set, Option, None, Some, ◌⊎◌, inl, inr, refl, sym, ap, subst, ◌∙◌, slice_get, get_or, arith}
-use Rattle.std.specs.Prelude.{option_map, option_and_then}
+use Rattle.std.specs.Prelude.{option_map, option_and_then, is_some, IsSome}
 use Rattle.cx_type_defs.specs.Tables.{Along, changed_at}
 use Rattle.cx_type_defs.specs.Questions.{From, Always, By, given, both, each, joined}
 
@@ -29,6 +29,13 @@ joined-some f (Some xs) None r e = absurd (cc)
 joined-some f None (Some ys) r e = absurd (cc)
 joined-some f None None r e = absurd (cc)
 
+pub option_value : {A : Type 0} (o : Option A) → IsSome o → (x : A) × (o ≡ Some x)
+option_value None h = absurd (cc)
+option_value (Some x) h = (x, refl)
+
+pub some-is : {A : Type 0} (o : Option A) (x : A) → o ≡ Some x → IsSome o
+some-is o x e = ap is_some e
+
 -- what is answered by f is answered so by g
 pub record Keeps {A R : Type 0} (f g : A → Option R) : Type 0 where
   pub keep : (x : A) (r : R) → f x ≡ Some r → g x ≡ Some r
@@ -40,6 +47,13 @@ each-keeps f g h (x ∷ xs) rs e =
     let a : g x ≡ Some i.0 = h.keep x i.0 i.2 in
     let b : each g xs ≡ Some i.1 = each-keeps f g h xs i.1 i.3 in
     ap (λ o. both o (each g xs)) a ∙ ap (λ o. both (Some i.0) o) b ∙ ap Some i.4
+
+pub each-at : {A R : Type 0} (f : A → Option R) (xs : List A) (rs : List R) → each f xs ≡ Some rs → (i : ℕ) (x : A) → slice_get xs i ≡ Some x → (r : R) × (f x ≡ Some r)
+each-at f [] rs e i x at = absurd (cc)
+each-at {A} {R} f (y ∷ ys) rs e zero x at =
+    let i = both-some (f y) (each f ys) rs e in
+    subst (λ (z : A). (r : R) × (f z ≡ Some r)) (some_inj y x at) (i.0, i.2)
+each-at f (y ∷ ys) rs e (suc k) x at = let i = both-some (f y) (each f ys) rs e in each-at f ys i.1 i.3 k x at
 
 pub given-keeps : {A R : Type 0} (m : From A R) (a b : Option A) → ((x : A) → a ≡ Some x → b ≡ Some x) → (r : R) → given m a ≡ Some r → given m b ≡ Some r
 given-keeps (Always x) a b h r e = e
@@ -79,6 +93,16 @@ module _ {A : Type 0} (R : A → A → Type 0) where
   Along-length (x ∷ xs) (y ∷ ys) g = omega (arith, Along-length xs ys g.1)
 
 -- items by their place
+
+pub slice_get-within : {A : Type 0} (xs : List A) (i : ℕ) → i < length xs → (x : A) × (slice_get xs i ≡ Some x)
+slice_get-within [] i h = absurd (omega arith)
+slice_get-within (x ∷ xs) zero h = (x, refl)
+slice_get-within (x ∷ xs) (suc i) h = slice_get-within xs i (omega arith)
+
+pub within-slice_get : {A : Type 0} (xs : List A) (i : ℕ) (x : A) → slice_get xs i ≡ Some x → i < length xs
+within-slice_get [] i x e = absurd (cc)
+within-slice_get (y ∷ ys) zero x e = omega arith
+within-slice_get (y ∷ ys) (suc i) x e = omega (arith, within-slice_get ys i x e)
 
 pub slice_get-more : {A : Type 0} (xs ys : List A) (i : ℕ) (x : A) → slice_get xs i ≡ Some x → slice_get (xs ++ ys) i ≡ Some x
 slice_get-more [] ys i x e = absurd (cc)

@@ -1,59 +1,26 @@
 -- The values of integer types and of enumerations ([basic.fundamental], [dcl.enum]).
-use Rattle.std.specs.Prelude.{◌≡◌, ℕ, zero, suc, ◌+◌, ◌-◌, ◌*◌, ◌^◌, Bool, true, false, ◌&&◌, [], ◌∷◌, Option, None, Some, ℤ, pos, negsuc, ◌≤ℤ◌, int_le, neg_ℤ, slice_get, option_and_then, option_map, if◌then◌else◌}
+use Rattle.std.specs.Prelude.{◌≡◌, ℕ, zero, suc, ◌+◌, ◌-◌, ◌^◌, Bool, true, false, ◌&&◌, [], ◌∷◌, Option, None, Some, IsSome, ℤ, pos, negsuc, ◌≤ℤ◌, int_le, neg_ℤ, slice_get, option_and_then, option_map, if◌then◌else◌}
 use Rattle.std.specs.List.{find}
 use Rattle.cx_base.specs.declared.int_type.IntType.{IntType}
 use Rattle.cx_base.specs.declared.int_type.IntType.TheVariants as int
+use Rattle.cx_ints.specs.Ranges.{least, greatest}
 use Rattle.cx_type_defs.specs.declared.ids.EnumId.{EnumId}
 use Rattle.cx_type_defs.specs.declared.decl.EnumDecl.{EnumDecl}
 use Rattle.cx_type_defs.specs.declared.decl.EnumEnd.{EnumEnd}
-use Rattle.cx_type_defs.specs.Tables.{Tables, int_size}
+use Rattle.cx_type_defs.specs.Tables.{Tables}
 
 -- the values of so many bits, in two's complement where they are signed
 abbrev pub bit_values : Bool → ℕ → ℤ × ℤ
 bit_values true bits = (neg_ℤ (pos (2 ^ (bits - 1))), pos (2 ^ (bits - 1) - 1))
 bit_values false bits = (pos 0, pos (2 ^ bits - 1))
 
-abbrev pub is_signed : IntType → Bool
-is_signed int.Bool = false
-is_signed int.Char = true
-is_signed int.SChar = true
-is_signed int.UChar = false
-is_signed int.Short = true
-is_signed int.UShort = false
-is_signed int.Int = true
-is_signed int.UInt = false
-is_signed int.Long = true
-is_signed int.ULong = false
-is_signed int.LongLong = true
-is_signed int.ULongLong = false
-
--- the bits of a type's values: one of bool's, and eight for each byte of another type
-abbrev pub value_bits : IntType → ℕ
-value_bits int.Bool = 1
-value_bits ty = 8 * int_size ty
-
+-- the least and the greatest value of an integer type
 abbrev pub type_values : IntType → ℤ × ℤ
-type_values ty = bit_values (is_signed ty) (value_bits ty)
+type_values ty = (least ty, greatest ty)
 
 -- both numbers are among the values
 abbrev pub Holds : ℤ × ℤ → ℤ → ℤ → Type 0
 Holds values low high = (values.0 ≤ℤ low) × (high ≤ℤ values.1)
-
--- the type is the one that the declaration fixes, if it fixes one
-abbrev pub IsUnder : Option IntType → IntType → Type 0
-IsUnder None under = Unit {0}
-IsUnder (Some fixed) under = under ≡ fixed
-
--- the enumeration is known, its list may end so: it hasn't ended before, and the least and the greatest enumerator are
--- values of the type
-abbrev pub MayEnd : Option EnumDecl → IntType → ℤ → ℤ → Type 0
-MayEnd None under low high = ⊥
-MayEnd (Some d) under low high = (d.end ≡ None) × IsUnder d.fixed under × (low ≤ℤ high) × Holds (type_values under) low high
-
--- the least of so many numbers, `from` and those behind it, that passes; if none does, the number behind them
-unfoldable pub first_from : (ℕ → Bool) → ℕ → ℕ → ℕ
-first_from test zero from = from
-first_from test (suc n) from = if test from then from else first_from test n (from + 1)
 
 abbrev pub holds : ℤ × ℤ → ℤ → ℤ → Bool
 holds values low high = int_le values.0 low && int_le high values.1
@@ -62,6 +29,26 @@ holds values low high = int_le values.0 low && int_le high values.1
 -- enumerator
 abbrev pub underlying : ℤ → ℤ → Option IntType
 underlying low high = find (λ ty. holds (type_values ty) low high) (int.Int ∷ int.UInt ∷ int.Long ∷ int.ULong ∷ [])
+
+-- A scoped enumeration has a fixed type: where none is written, that is int.
+abbrev pub IsFixedIfScoped : Bool → Option IntType → Type 0
+IsFixedIfScoped scoped fixed = scoped ≡ true → IsSome fixed
+
+-- the underlying type: the one that the declaration fixes, which then holds the least and the greatest enumerator, or
+-- else the first one that holds them
+unfoldable pub IsUnder : Option IntType → IntType → ℤ → ℤ → Type 0
+IsUnder None under low high = underlying low high ≡ Some under
+IsUnder (Some fixed) under low high = (under ≡ fixed) × Holds (type_values fixed) low high
+
+-- the enumeration is known, its list may end so: it hasn't ended before
+abbrev pub MayEnd : Option EnumDecl → IntType → ℤ → ℤ → Type 0
+MayEnd None under low high = ⊥
+MayEnd (Some d) under low high = (d.end ≡ None) × (low ≤ℤ high) × IsUnder d.fixed under low high
+
+-- the least of so many numbers, `from` and those behind it, that passes; if none does, the number behind them
+unfoldable pub first_from : (ℕ → Bool) → ℕ → ℕ → ℕ
+first_from test zero from = from
+first_from test (suc n) from = if test from then from else first_from test n (from + 1)
 
 -- the values of a bit-field of so many bits, which is signed where the least enumerator is below 0
 abbrev pub field_of_bits : ℤ → ℕ → ℤ × ℤ

@@ -1,5 +1,9 @@
 pub mod Tables
 pub mod Questions
+pub mod Levels
 pub mod Slots
-pub mod Refusals
+pub mod Same
+pub mod Bodies
 pub mod Enums
+pub mod Sound
+pub mod Refusals

@@ -210,8 +210,13 @@ size_answer t id = extent_answer (λ e. e.size) (asked extent_of t (OfType id))
 abbrev pub align_answer : Tables → TypeId → Result ℕ Rule
 align_answer t id = extent_answer (λ e. e.align) (asked extent_of t (OfType id))
 
+-- the cells of a complete type: a type has them only where each part has
+abbrev pub counted : Option ℕ → Result ℕ Rule
+counted None = Err rule.Incomplete
+counted (Some n) = Ok n
+
 abbrev pub cells_answer : Tables → TypeId → Result ℕ Rule
-cells_answer t id = if is_complete t id then Ok (unwrap_or (asked cells_of t (OfType id)) 0) else Err rule.Incomplete
+cells_answer t id = if is_complete t id then counted (asked cells_of t (OfType id)) else Err rule.Incomplete
 
 abbrev pub literal_answer : Tables → TypeId → Bool
 literal_answer t id = unwrap_or (asked literal_of t (OfType id)) false

@@ -14,6 +14,8 @@ pub use decl::{ClassBody, ClassDecl, ClassFlags, ClassKey, EnumDecl, EnumEnd, Ex
 pub use ids::{ClassId, EnumId, FuncId, Step, TypeId, VarId};
 pub use kind::{TypeKind, TypeRow};
 pub use laws::{
-    answers_stay, enumerators_in_range, field_is_smallest, growth_is_an_order, questions_open,
+    answers_stay, calls_make_grow, chains_are_short, const_set_aside, enumerators_in_range,
+    field_is_smallest, growth_is_an_order, knowledge_stays, one_number_a_type, questions_open,
+    values_of_the_type,
 };
 pub use values::{enum_values, type_values, underlying_of};

@@ -7,6 +7,7 @@ use crate::decl::EnumEnd;
 use cx_base::IntType;
 
 /// The least and the greatest value of the type.
+#[tactic(auto, unfolding(cx_ints::specs::Ranges::least, cx_ints::specs::Ranges::greatest, cx_ints::specs::Ranges::is_signed, cx_ints::specs::Ranges::width))]
 pub fn type_values(ty: IntType) -> (i128, i128)
     ensures { result ≡ type_values ty }
 {

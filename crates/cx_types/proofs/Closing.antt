@@ -6,7 +6,6 @@ use Rattle.cx_type_defs.specs.declared.answer.TypeAnswer.{TypeAnswer}
 use Rattle.cx_type_defs.specs.declared.answer.TypeAnswer.TheVariants as answer
 use Rattle.cx_type_defs.specs.declared.ids.TypeId.{TypeId}
 use Rattle.cx_type_defs.specs.declared.ids.ClassId.{ClassId}
-use Rattle.cx_type_defs.specs.declared.kind.TypeRow.{TypeRow}
 use Rattle.cx_type_defs.specs.declared.decl.ClassDecl.{ClassDecl}
 use Rattle.cx_type_defs.specs.declared.decl.ClassBody.{ClassBody}
 use Rattle.cx_type_defs.specs.declared.decl.ClassKey.{ClassKey}
@@ -14,15 +13,16 @@ use Rattle.cx_type_defs.specs.declared.decl.Field.{Field}
 use Rattle.cx_type_defs.specs.declared.decl.Extent.{Extent}
 use Rattle.cx_types.specs.declared.facts.RowFacts.{RowFacts}
 use Rattle.cx_types.specs.declared.facts.Measure.{Measure}
-use Rattle.cx_type_defs.specs.Tables.{Tables, Stays, Grows, ClassGrows, EnumGrows, body_at, with_body, changed_at}
+use Rattle.cx_type_defs.specs.Tables.{Tables, Grows, ClassGrows, body_at, with_body, changed_at}
 use Rattle.cx_type_defs.specs.Questions.{Question, Part, OfType, OfClass, each, joined, body_answer, class_answer, asked, depth_of, cells_of, nodes_of, literal_of, extent_of, is_complete}
 use Rattle.cx_type_defs.specs.Refusals.{is_large, lacks_part, large_body, body_refusal, Refuses}
 use Rattle.cx_types.specs.Kept.{KeptRow, KeptClass, KeptBody, ClassTold, Kept}
 use Rattle.cx_types.specs.Parts.{AreGood, PartTold, PartsTold, part_of_field, Measured, too_large, BodyTold, IsOpenClass, GatheredVec}
-use Rattle.cx_type_defs.proofs.Lists.{slice_get-changed_same, some_inj, Along-at, Along-same, slice_get-set}
-use Rattle.cx_type_defs.proofs.Looking.{Grows-same, Grows-then, ClassGrows-same, EnumGrows-same}
+use Rattle.cx_type_defs.proofs.Lists.{slice_get-changed_same, some_inj, Along-at, slice_get-set}
+use Rattle.cx_type_defs.proofs.Looking.{Grows-same, Grows-then}
 use Rattle.cx_type_defs.proofs.Asked.{asked-body, asked-incomplete}
-use Rattle.cx_types.proofs.Keeping.{changed-length, Along-changed, IsKnown-grows, KeptRow-grows, KeptClass-grows}
+use Rattle.cx_type_defs.proofs.Growing.{Grows-body}
+use Rattle.cx_types.proofs.Keeping.{changed-length, IsKnown-grows, KeptRow-grows, KeptClass-grows}
 use Rattle.cx_types.proofs.Totals.{sum-cons}
 
 pub type-told : (t : Tables) (id : TypeId) (f : RowFacts) (x : Option Extent) → KeptRow t id f → asked extent_of t (OfType id) ≡ Some x → PartTold t (OfType id) (record { facts = f.facts; extent = x })
@@ -145,17 +145,6 @@ slice_get-changed f (x ∷ xs) (suc k) (suc i) y e =
     elim (slice_get-changed f xs k i y e) as (λ _. ((suc i ≡ suc k) × (w : _) × (slice_get xs i ≡ Some w) × (y ≡ f w)) ⊎ ((suc i ≡ suc k → ⊥) × (slice_get xs i ≡ Some y)))
     [ inl h ↦ inl (ap suc h.0, h.1, h.2, h.3) | inr h ↦ inr ((λ z. let w : i ≡ k = omega arith in h.0 w), h.1) ]
 
-ClassGrows-body : (d : ClassDecl) (b : ClassBody) → d.body ≡ None → ClassGrows d (record d { body = Some b })
-ClassGrows-body d b none = record { same_name = refl; same_key = refl; body_stays = subst (λ o. Stays o (Some b)) (sym none) tt }
-
-pub Grows-body : (t : Tables) (c : ClassId) (b : ClassBody) (d : ClassDecl) → slice_get t.classes c.0 ≡ Some d → d.body ≡ None → Grows t (with_body t c b)
-Grows-body t c b d at none = record {
-  row_list = Along-same (λ (x y : TypeRow). y ≡ x) (λ x. refl) t.rows;
-  class_list = Along-changed ClassGrows ClassGrows-same (λ (w : ClassDecl). record w { body = Some b }) t.classes c.0
-      (λ w e. ClassGrows-body w b (subst (λ (v : ClassDecl). v.body ≡ None) (some_inj d w (sym at ∙ e)) none));
-  enum_list = Along-same EnumGrows EnumGrows-same t.enums;
-}
-
 module _ (t : Tables) (c : ClassId) (k : ClassKey) (b : ClassBody) (m : Measure) (d : ClassDecl) (at : slice_get t.classes c.0 ≡ Some d) (none : d.body ≡ None) (key : d.key ≡ k) (told : BodyTold t k b m) where
   grown : Grows t (with_body t c b)
   grown = Grows-body t c b d at none
@@ -188,6 +177,9 @@ module _ (t : Tables) (c : ClassId) (k : ClassKey) (b : ClassBody) (m : Measure)
     each_row = h.each_row;
     each_class = length-set' ms c.0 (Some m) ∙ h.each_class ∙ sym (changed-length (λ (w : ClassDecl). record w { body = Some b }) t.classes c.0);
     known = λ i r e. IsKnown-grows t (with_body t c b) (omega arith) (let z = changed-length (λ (w : ClassDecl). record w { body = Some b }) t.classes c.0 in omega arith) (omega arith) r.kind (h.known i r e);
+    older = h.older;
+    normal = h.normal;
+    once = h.once;
     rows_kept = λ id r f e x n. KeptRow-grows t (with_body t c b) grown id f (h.rows_kept id r f e x n);
     classes_kept = λ i w o e x. kept-of i w o (slice_get-changed (λ (v : ClassDecl). record v { body = Some b }) t.classes c.0 i.0 w e) (slice_get-set ms c.0 (Some m) i.0 o x);
   }

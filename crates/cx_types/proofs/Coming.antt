@@ -1,6 +1,6 @@
 -- A row that comes in is kept as it was found.
-use Rattle.std.proofs.Common.{◌≡◌, ℕ, ◌+◌, ◌*◌, ◌≤◌, List, [], ◌∷◌, ◌++◌, length, Option, None, Some, ◌⊎◌, inl, inr, refl, sym, ap, subst, ◌∙◌, slice_get, arith, length-append}
-use Rattle.std.specs.Prelude.{option_map, option_and_then}
+use Rattle.std.proofs.Common.{◌≡◌, ℕ, ◌+◌, ◌*◌, ◌<◌, ◌≤◌, Bool, true, false, List, [], ◌∷◌, ◌++◌, length, Option, None, Some, ◌⊎◌, inl, inr, refl, sym, ap, subst, ◌∙◌, slice_get, arith, length-append}
+use Rattle.std.specs.Prelude.{option_map, option_and_then, not, ◌&&◌}
 use Rattle.std.proofs.lemmas.Option.{slice_get_within}
 use Rattle.std.proofs.Math.Nat.{mul-le-mul_left}
 use Rattle.cx_base.specs.declared.int_type.IntType.{IntType}
@@ -12,21 +12,18 @@ use Rattle.cx_type_defs.specs.declared.kind.TypeKind.TheVariants as kind
 use Rattle.cx_type_defs.specs.declared.decl.Extent.{Extent}
 use Rattle.cx_types.specs.declared.facts.RowFacts.{RowFacts}
 use Rattle.cx_types.specs.declared.facts.Measure.{Measure}
-use Rattle.cx_type_defs.specs.Tables.{Tables, Grows, ClassGrows, EnumGrows, IsKnown, with_row, int_size, under_at}
+use Rattle.cx_type_defs.specs.Tables.{Tables, Grows, IsKnown, with_row, int_size, under_at}
 use Rattle.cx_type_defs.specs.Questions.{Part, OfType, address_answer, kind_answer, asked, depth_of, cells_of, nodes_of, literal_of, extent_of, bytes}
+use Rattle.cx_type_defs.specs.Levels.{part_of}
+use Rattle.cx_type_defs.specs.Same.{may_be_pointed_to, may_be_referred_to, row_passes, is_normal_kind, is_normal}
 use Rattle.cx_types.specs.Kept.{Fitting, RowTold, KeptRow, Kept, IsLeaf, IsNoClass, FoundLeaf, FoundRow, MayCome}
-use Rattle.cx_type_defs.proofs.Lists.{some_inj, option_map-some, option_and_then-some, Along-same, Along-more, slice_get-last, slice_get-push}
-use Rattle.cx_type_defs.proofs.Looking.{row-grows, Grows-same, Grows-then, ClassGrows-same, EnumGrows-same}
+use Rattle.cx_type_defs.proofs.Lists.{some_inj, option_map-some, option_and_then-some, slice_get-last, slice_get-more, slice_get-push}
+use Rattle.cx_type_defs.proofs.Looking.{row-grows, Grows-same, Grows-then}
+use Rattle.cx_type_defs.proofs.Growing.{Grows-row}
+use Rattle.cx_type_defs.proofs.Chains.{known-part}
 use Rattle.cx_type_defs.proofs.Asked.{asked-opens, asked-row}
 use Rattle.cx_types.proofs.Keeping.{IsKnown-grows, KeptRow-grows, KeptClass-grows}
 use Rattle.cx_types.proofs.Rows.{spread-one, pointer-always}
-
-pub Grows-row : (t : Tables) (row : TypeRow) → Grows t (with_row t row)
-Grows-row t row = record {
-  row_list = Along-more (λ (a b : TypeRow). b ≡ a) (λ x. refl) t.rows (row ∷ []);
-  class_list = Along-same ClassGrows ClassGrows-same t.classes;
-  enum_list = Along-same EnumGrows EnumGrows-same t.enums;
-}
 
 spread-spread : (n m : ℕ) (o : Option (Option Extent)) → option_map (extent_of.of_array n) (option_map (extent_of.of_array m) o) ≡ option_map (extent_of.of_array (n * m)) o
 spread-spread n m None = refl
@@ -156,11 +153,47 @@ found-row t id (kind.Pointer _) f n h = h
 found-row t id (kind.Reference _) f n h = h
 found-row t id (kind.Array _ _) f n h = h
 
-pub Kept-row : (t : Tables) (row : TypeRow) (f : RowFacts) (rf : List RowFacts) (ms : List (Option Measure)) → IsKnown t row.kind → MayCome t (record { 0 = length t.rows }) row.kind f → Kept t rf ms → Kept (with_row t row) (rf ++ f ∷ []) ms
-Kept-row t row f rf ms known may h = record {
+-- a type stays written in the one way where types are added
+
+passes-more : (test : TypeKind → Bool) (xs ys : List TypeRow) (i : ℕ) → row_passes test (slice_get xs i) ≡ true → row_passes test (slice_get (xs ++ ys) i) ≡ true
+passes-more test xs ys i e = of (slice_get xs i) refl e
+  where
+    of : (o : Option TypeRow) → slice_get xs i ≡ o → row_passes test o ≡ true → row_passes test (slice_get (xs ++ ys) i) ≡ true
+    of None at p = absurd (cc)
+    of (Some r) at p = ap (row_passes test) (slice_get-more xs ys i r at) ∙ p
+
+and-split : (a b : Bool) → (a && b) ≡ true → (a ≡ true) × (b ≡ true)
+and-split true b h = (refl, h)
+and-split false b h = absurd (cc)
+
+normal-more : (xs ys : List TypeRow) (konst : Bool) (k : TypeKind) → is_normal_kind xs konst k ≡ true → is_normal_kind (xs ++ ys) konst k ≡ true
+normal-more xs ys konst (kind.Pointer to) h = passes-more may_be_pointed_to xs ys to.0 h
+normal-more xs ys konst (kind.Reference to) h =
+    let both = and-split (not konst) (row_passes may_be_referred_to (slice_get xs to.0)) h in
+    ap (λ a. a && row_passes may_be_referred_to (slice_get (xs ++ ys) to.0)) both.0 ∙ passes-more may_be_referred_to xs ys to.0 both.1
+normal-more xs ys konst (kind.Array _ _) h = h
+normal-more xs ys konst kind.Void h = refl
+normal-more xs ys konst kind.Nullptr h = refl
+normal-more xs ys konst (kind.Int _) h = refl
+normal-more xs ys konst (kind.Enum _) h = refl
+normal-more xs ys konst (kind.Class _) h = refl
+
+-- a row that came in and stands in the list at one place alone wasn't there before
+pub absent-before : (xs new : List TypeRow) (row : TypeRow) (k : ℕ) → new ≡ xs ++ row ∷ [] → ((j : ℕ) → slice_get new j ≡ Some row → j ≡ k) → (i : ℕ) → slice_get xs i ≡ Some row → ⊥
+absent-before xs new row k is only i e =
+    let last = only (length xs) (ap (λ (l : List TypeRow). slice_get l (length xs)) is ∙ slice_get-last xs row) in
+    let first = only i (ap (λ (l : List TypeRow). slice_get l i) is ∙ slice_get-more xs (row ∷ []) i row e) in
+    let less = slice_get_within xs i row e in
+    omega arith
+
+pub Kept-row : (t : Tables) (row : TypeRow) (f : RowFacts) (rf : List RowFacts) (ms : List (Option Measure)) → IsKnown t row.kind → is_normal t row ≡ true → ((i : ℕ) → slice_get t.rows i ≡ Some row → ⊥) → MayCome t (record { 0 = length t.rows }) row.kind f → Kept t rf ms → Kept (with_row t row) (rf ++ f ∷ []) ms
+Kept-row t row f rf ms known normal absent may h = record {
   each_row = (let z = h.each_row in omega (arith, length-append rf (f ∷ []), length-append t.rows (row ∷ [])));
   each_class = h.each_class;
   known = λ i r e. known-of i r (slice_get-push t.rows row i r e);
+  older = λ i r part e x. older-of i r part (slice_get-push t.rows row i r e) x;
+  normal = λ i r e. normal-of i r (slice_get-push t.rows row i r e);
+  once = λ i j r e x. once-of i j r (slice_get-push t.rows row i r e) (slice_get-push t.rows row j r x);
   rows_kept = λ id r g e x n. kept-of id r g n (slice_get-push t.rows row id.0 r e) (slice_get-push rf f id.0 g x);
   classes_kept = λ c d m e x. KeptClass-grows t u grows c d.body m (h.classes_kept c d m e x);
 }
@@ -177,6 +210,23 @@ Kept-row t row f rf ms known may h = record {
     known-of : (i : ℕ) (r : TypeRow) → (slice_get t.rows i ≡ Some r) ⊎ ((i ≡ length t.rows) × (r ≡ row)) → IsKnown u r.kind
     known-of i r (inl e) = longer r.kind (h.known i r e)
     known-of i r (inr e) = subst (λ (w : TypeRow). IsKnown u w.kind) (sym e.1) (longer row.kind known)
+
+    older-of : (i : ℕ) (r : TypeRow) (part : TypeId) → (slice_get t.rows i ≡ Some r) ⊎ ((i ≡ length t.rows) × (r ≡ row)) → part_of r.kind ≡ Some part → part.0 < i
+    older-of i r part (inl e) x = h.older i r part e x
+    older-of i r part (inr e) x =
+        let l = known-part t row.kind part known (ap (λ (w : TypeRow). part_of w.kind) (sym e.1) ∙ x) in
+        let at = e.0 in
+        omega arith
+
+    normal-of : (i : ℕ) (r : TypeRow) → (slice_get t.rows i ≡ Some r) ⊎ ((i ≡ length t.rows) × (r ≡ row)) → is_normal u r ≡ true
+    normal-of i r (inl e) = normal-more t.rows (row ∷ []) r.konst r.kind (h.normal i r e)
+    normal-of i r (inr e) = subst (λ (w : TypeRow). is_normal u w ≡ true) (sym e.1) (normal-more t.rows (row ∷ []) row.konst row.kind normal)
+
+    once-of : (i j : ℕ) (r : TypeRow) → (slice_get t.rows i ≡ Some r) ⊎ ((i ≡ length t.rows) × (r ≡ row)) → (slice_get t.rows j ≡ Some r) ⊎ ((j ≡ length t.rows) × (r ≡ row)) → i ≡ j
+    once-of i j r (inl e) (inl x) = h.once i j r e x
+    once-of i j r (inl e) (inr x) = absurd (absent i (e ∙ ap Some x.1))
+    once-of i j r (inr e) (inl x) = absurd (absent j (x ∙ ap Some e.1))
+    once-of i j r (inr e) (inr x) = e.0 ∙ sym x.0
 
     kept-new : IsNoClass row.kind → KeptRow u (record { 0 = length t.rows }) f
     kept-new n =

@@ -1,6 +1,6 @@
 -- The extent of a type by its leaf.
 use Rattle.std.proofs.Common.{◌≡◌, ℕ, ◌*◌, ◌^◌, ◌<◌, true, length, Option, None, Some, Ok, Err, refl, sym, ap, subst, ◌∙◌, slice_get, arith, if◌then◌else◌}
-use Rattle.std.specs.Prelude.{option_map, unwrap_or, is_some}
+use Rattle.std.specs.Prelude.{option_map, is_some}
 use Rattle.std.proofs.lemmas.Option.{slice_get_within}
 use Rattle.cx_base.specs.declared.rule.Rule.TheVariants as rule
 use Rattle.cx_type_defs.specs.declared.ids.TypeId.{TypeId}
@@ -13,7 +13,7 @@ use Rattle.cx_type_defs.specs.declared.decl.Extent.{Extent}
 use Rattle.cx_types.specs.declared.facts.RowFacts.{RowFacts}
 use Rattle.cx_types.specs.declared.facts.Measure.{Measure}
 use Rattle.cx_type_defs.specs.Tables.{Tables, IsKnown, body_at}
-use Rattle.cx_type_defs.specs.Questions.{OfType, OfClass, kind_answer, asked, cells_of, extent_of, bytes, is_complete, cells_answer}
+use Rattle.cx_type_defs.specs.Questions.{OfType, OfClass, kind_answer, asked, cells_of, extent_of, bytes, is_complete, counted, cells_answer}
 use Rattle.cx_types.specs.Kept.{KeptRow, KeptClass, IsOpen, IsLeafAt}
 use Rattle.cx_type_defs.proofs.Looking.{Grows-same}
 use Rattle.cx_type_defs.proofs.Asked.{asked-kind, asked-incomplete, under}
@@ -67,7 +67,7 @@ module _ (t : Tables) (id : TypeId) (f : RowFacts) (kept : KeptRow t id f) where
 
   pub known-cells : is_complete t id ≡ true → Ok f.facts.cells ≡ cells_answer t id
   known-cells complete =
-      sym (ap (λ b. if b then Ok (unwrap_or (asked cells_of t (OfType id)) 0) else Err rule.Incomplete) complete ∙ ap (λ o. Ok (unwrap_or o 0)) (kept.later t (Grows-same t)).told.cells_told)
+      sym (ap (λ b. if b then counted (asked cells_of t (OfType id)) else Err rule.Incomplete) complete ∙ ap counted (kept.later t (Grows-same t)).told.cells_told)
 
 pub open-cells : (t : Tables) (id : TypeId) → IsOpen t id → Err rule.Incomplete ≡ cells_answer t id
-open-cells t id h = sym (ap (λ o. if is_some o then Ok (unwrap_or (asked cells_of t (OfType id)) 0) else Err rule.Incomplete) (open-asked extent_of t id h))
+open-cells t id h = sym (ap (λ o. if is_some o then counted (asked cells_of t (OfType id)) else Err rule.Incomplete) (open-asked extent_of t id h))

@@ -1,6 +1,6 @@
 -- What is kept stays kept where the tables grow.
 use Rattle.std.proofs.Common.{◌≡◌, ℕ, zero, suc, ◌+◌, ◌<◌, ◌≤◌, List, [], ◌∷◌, ◌++◌, length, Option, None, Some, ◌⊎◌, inl, inr, refl, sym, ap, subst, ◌∙◌, slice_get, arith, length-append}
-use Rattle.std.specs.Prelude.{option_and_then, ℤ}
+use Rattle.std.specs.Prelude.{option_and_then}
 use Rattle.std.proofs.lemmas.Option.{slice_get_within, slice_get_cases}
 use Rattle.cx_type_defs.specs.declared.ids.TypeId.{TypeId}
 use Rattle.cx_type_defs.specs.declared.ids.ClassId.{ClassId}
@@ -14,12 +14,12 @@ use Rattle.cx_type_defs.specs.declared.decl.EnumDecl.{EnumDecl}
 use Rattle.cx_type_defs.specs.declared.decl.EnumEnd.{EnumEnd}
 use Rattle.cx_types.specs.declared.facts.RowFacts.{RowFacts}
 use Rattle.cx_types.specs.declared.facts.Measure.{Measure}
-use Rattle.cx_type_defs.specs.Tables.{Tables, Along, ClassGrows, EnumGrows, Grows, Stays, IsKnown, with_class, with_enum, with_end, body_at, changed_at}
-use Rattle.cx_base.specs.declared.int_type.IntType.{IntType}
-use Rattle.cx_type_defs.specs.Enums.{MayEnd}
+use Rattle.cx_type_defs.specs.Tables.{Tables, Grows, IsKnown, with_class, with_enum, with_end, body_at, changed_at}
+use Rattle.cx_type_defs.specs.Same.{is_normal_kind}
 use Rattle.cx_types.specs.Kept.{Kept, KeptRow, KeptClass}
-use Rattle.cx_type_defs.proofs.Lists.{some_inj, Along-same, Along-more, slice_get-push}
-use Rattle.cx_type_defs.proofs.Looking.{Grows-then, ClassGrows-same, EnumGrows-same}
+use Rattle.cx_type_defs.proofs.Lists.{some_inj, slice_get-push}
+use Rattle.cx_type_defs.proofs.Looking.{Grows-then}
+use Rattle.cx_type_defs.proofs.Growing.{Grows-enum, Grows-end, Grows-class}
 
 pub some_at : {A : Type 0} (xs : List A) (i : ℕ) → i < length xs → (x : A) × (slice_get xs i ≡ Some x)
 some_at xs i h = elim (slice_get_cases xs i).1 as (λ _. (x : _) × (slice_get xs i ≡ Some x)) [ inl w ↦ (w.0, w.2) | inr w ↦ (let n = w.0 in absurd (omega arith)) ]
@@ -49,15 +49,11 @@ Kept-enums t u rf ms g er ec le h = record {
   each_row = h.each_row ∙ ap length (sym er);
   each_class = h.each_class ∙ ap length (sym ec);
   known = λ i r e. IsKnown-grows t u (let z = ap length er in omega arith) (let z = ap length ec in omega arith) le r.kind (h.known i r (ap (λ (l : List TypeRow). slice_get l i) (sym er) ∙ e));
+  older = λ i r part e x. h.older i r part (ap (λ (l : List TypeRow). slice_get l i) (sym er) ∙ e) x;
+  normal = λ i r e. ap (λ (l : List TypeRow). is_normal_kind l r.konst r.kind) er ∙ h.normal i r (ap (λ (l : List TypeRow). slice_get l i) (sym er) ∙ e);
+  once = λ i j r e x. h.once i j r (ap (λ (l : List TypeRow). slice_get l i) (sym er) ∙ e) (ap (λ (l : List TypeRow). slice_get l j) (sym er) ∙ x);
   rows_kept = λ id r f e x n. KeptRow-grows t u g id f (h.rows_kept id r f (ap (λ (l : List TypeRow). slice_get l id.0) (sym er) ∙ e) x n);
   classes_kept = λ c d m e x. KeptClass-grows t u g c d.body m (h.classes_kept c d m (ap (λ (l : List ClassDecl). slice_get l c.0) (sym ec) ∙ e) x);
-}
-
-pub Grows-enum : (t : Tables) (d : EnumDecl) → Grows t (with_enum t d)
-Grows-enum t d = record {
-  row_list = Along-same (λ (a b : TypeRow). b ≡ a) (λ x. refl) t.rows;
-  class_list = Along-same ClassGrows ClassGrows-same t.classes;
-  enum_list = Along-more EnumGrows EnumGrows-same t.enums (d ∷ []);
 }
 
 pub Kept-enum : (t : Tables) (d : EnumDecl) (rf : List RowFacts) (ms : List (Option Measure)) → Kept t rf ms → Kept (with_enum t d) rf ms
@@ -68,36 +64,17 @@ changed-length f [] i = refl
 changed-length f (x ∷ xs) zero = refl
 changed-length f (x ∷ xs) (suc i) = ap suc (changed-length f xs i)
 
-pub Along-changed : {A : Type 0} (R : A → A → Type 0) → ((x : A) → R x x) → (f : A → A) (xs : List A) (i : ℕ) → ((x : A) → slice_get xs i ≡ Some x → R x (f x)) → Along R xs (changed_at f xs i)
-Along-changed R same f [] i h = tt
-Along-changed R same f (x ∷ xs) zero h = (h x refl, Along-same R same xs)
-Along-changed R same f (x ∷ xs) (suc i) h = (same x, Along-changed R same f xs i h)
-
-EnumGrows-end : (d : EnumDecl) (e : EnumEnd) → d.end ≡ None → EnumGrows d (record d { end = Some e })
-EnumGrows-end d e none = record { same_name = refl; same_scope = refl; same_fixed = refl; end_stays = subst (λ o. Stays o (Some e)) (sym none) tt }
-
-pub Grows-end : (t : Tables) (id : EnumId) (e : EnumEnd) → ((d : EnumDecl) → slice_get t.enums id.0 ≡ Some d → d.end ≡ None) → Grows t (with_end t id e)
-Grows-end t id e none = record {
-  row_list = Along-same (λ (a b : TypeRow). b ≡ a) (λ x. refl) t.rows;
-  class_list = Along-same ClassGrows ClassGrows-same t.classes;
-  enum_list = Along-changed EnumGrows EnumGrows-same (λ (d : EnumDecl). record d { end = Some e }) t.enums id.0 (λ d at. EnumGrows-end d e (none d at));
-}
-
 pub Kept-end : (t : Tables) (id : EnumId) (e : EnumEnd) (rf : List RowFacts) (ms : List (Option Measure)) → ((d : EnumDecl) → slice_get t.enums id.0 ≡ Some d → d.end ≡ None) → Kept t rf ms → Kept (with_end t id e) rf ms
 Kept-end t id e rf ms none h = Kept-enums t (with_end t id e) rf ms (Grows-end t id e none) refl refl (let z = changed-length (λ (d : EnumDecl). record d { end = Some e }) t.enums id.0 in omega arith) h
-
-pub Grows-class : (t : Tables) (d : ClassDecl) → Grows t (with_class t d)
-Grows-class t d = record {
-  row_list = Along-same (λ (a b : TypeRow). b ≡ a) (λ x. refl) t.rows;
-  class_list = Along-more ClassGrows ClassGrows-same t.classes (d ∷ []);
-  enum_list = Along-same EnumGrows EnumGrows-same t.enums;
-}
 
 pub Kept-class : (t : Tables) (d : ClassDecl) (rf : List RowFacts) (ms : List (Option Measure)) → d.body ≡ None → Kept t rf ms → Kept (with_class t d) rf (ms ++ None ∷ [])
 Kept-class t d rf ms none h = record {
   each_row = h.each_row;
   each_class = (let a = h.each_class in omega (arith, length-append ms (None ∷ []), length-append t.classes (d ∷ [])));
   known = λ i r e. IsKnown-grows t (with_class t d) (omega arith) (omega (arith, length-append t.classes (d ∷ []))) (omega arith) r.kind (h.known i r e);
+  older = h.older;
+  normal = h.normal;
+  once = h.once;
   rows_kept = λ id r f e x n. KeptRow-grows t (with_class t d) (Grows-class t d) id f (h.rows_kept id r f e x n);
   classes_kept = λ c w m e x. of c w m (slice_get-push t.classes d c.0 w e) (slice_get-push ms None c.0 m x);
 }
@@ -122,7 +99,3 @@ few-parts t c (Some a) (Some m) h b e =
     subst (λ (z : ClassBody). length z.bases + length z.fields + 1 ≤ 1048576) (some_inj a b e) (omega arith)
 few-parts t c (Some a) None h b e = absurd h
 few-parts t c None m h b e = absurd (cc)
-
-pub MayEnd-none : (o : Option EnumDecl) (under : IntType) (low high : ℤ) → MayEnd o under low high → (d : EnumDecl) → o ≡ Some d → d.end ≡ None
-MayEnd-none None under low high m d e = absurd m
-MayEnd-none (Some w) under low high m d e = ap (λ (v : EnumDecl). v.end) (sym (some_inj w d e)) ∙ m.0

@@ -6,5 +6,5 @@ pub mod Keeping
 pub mod Closing
 pub mod Slots
 pub mod Whole
+pub mod Soundness
 pub mod Funcs
-pub mod Testing

@@ -1,6 +1,7 @@
 -- The slots of bases: where one of them stands, and that their number stays where the tables grow.
-use Rattle.std.proofs.Common.{◌≡◌, ℕ, zero, suc, ◌+◌, ◌<◌, ◌≤◌, Bool, true, false, List, [], ◌∷◌, length, map, take, get_or, sum, Option, None, Some, refl, sym, ap, subst, ◌∙◌, slice_get, arith}
+use Rattle.std.proofs.Common.{◌≡◌, ℕ, zero, suc, ◌+◌, ◌<◌, ◌≤◌, Bool, true, false, ◌||◌, List, [], ◌∷◌, length, map, take, get_or, sum, Option, None, Some, refl, sym, ap, subst, ◌∙◌, slice_get, arith}
 use Rattle.std.specs.Prelude.{IfSome, option_map, option_and_then, unwrap_or, nat_lt, if◌then◌else◌}
+use Rattle.std.specs.List.{list_any}
 use Rattle.std.proofs.lemmas.Bool.{lt-ltb, le-ltb, ltb-true}
 use Rattle.std.proofs.lemmas.List.Sums.{sum-map, sum_by-take-le, sum_by_more_le}
 use Rattle.cx_type_defs.specs.declared.ids.ClassId.{ClassId}
@@ -8,20 +9,16 @@ use Rattle.cx_type_defs.specs.declared.decl.ClassDecl.{ClassDecl}
 use Rattle.cx_type_defs.specs.declared.decl.ClassBody.{ClassBody}
 use Rattle.cx_type_defs.specs.declared.decl.ClassKey.{ClassKey}
 use Rattle.cx_type_defs.specs.declared.decl.Field.{Field}
-use Rattle.cx_type_defs.specs.Tables.{Tables, ClassGrows, Grows, body_at}
+use Rattle.cx_type_defs.specs.Tables.{Tables, Grows, body_at}
 use Rattle.cx_type_defs.specs.Slots.{slot_count, base_slots, slot_among}
 use Rattle.cx_type_defs.specs.Questions.{OfType, OfClass, each, body_answer, asked, depth_of}
-use Rattle.cx_types.specs.Kept.{SlotsFit}
-use Rattle.cx_type_defs.proofs.Lists.{some_inj, option_and_then-some, option_map-some, joined-some, both-some, Along-at}
-use Rattle.cx_type_defs.proofs.Looking.{Stays-some, Grows-same, Grows-then}
-use Rattle.cx_type_defs.proofs.Asked.{asked-incomplete}
+use Rattle.cx_type_defs.specs.Bodies.{body_has_virtual, IsFit}
+use Rattle.cx_types.specs.Kept.{SlotsFit, StaysFit}
+use Rattle.cx_type_defs.proofs.Lists.{some_inj, option_map-some, joined-some, both-some}
+use Rattle.cx_type_defs.proofs.Looking.{Grows-same, Grows-then}
+use Rattle.cx_type_defs.proofs.Growing.{body-stays}
+use Rattle.cx_type_defs.proofs.Asked.{asked-incomplete, asked-has_body}
 use Rattle.cx_types.proofs.Totals.{sum-cons}
-
-body-grows : (t u : Tables) → Grows t u → (c : ClassId) (b : ClassBody) → body_at t c ≡ Some b → body_at u c ≡ Some b
-body-grows t u g c b e =
-    let i = option_and_then-some (λ (d : ClassDecl). d.body) (slice_get t.classes c.0) b e in
-    let a = Along-at ClassGrows t.classes u.classes g.class_list c.0 i.0 i.1 in
-    ap (option_and_then (λ (d : ClassDecl). d.body)) a.1 ∙ Stays-some i.0.body a.0.body b a.2.body_stays i.2
 
 slots-of : Option ClassBody → ℕ
 slots-of o = length (unwrap_or (option_map (λ (b : ClassBody). b.slots) o) [])
@@ -33,7 +30,7 @@ count-stays t u g c n e = of (body_at t c) refl
   where
     of : (o : Option ClassBody) → body_at t c ≡ o → slot_count u c ≡ slot_count t c
     of None h = let z : Some n ≡ None = sym e ∙ asked-incomplete depth_of t c h in absurd (cc)
-    of (Some b) h = ap slots-of (body-grows t u g c b h) ∙ ap slots-of (sym h)
+    of (Some b) h = ap slots-of (body-stays t u g c b h) ∙ ap slots-of (sym h)
 
 counts-stay : (t u : Tables) → Grows t u → (cs : List ClassId) (ns : List ℕ) → each (λ c. asked depth_of t (OfClass c)) cs ≡ Some ns → sum (map (slot_count u) cs) ≡ sum (map (slot_count t) cs)
 counts-stay t u g [] ns e = refl
@@ -52,6 +49,26 @@ base_slots-stay t u g k b d e =
 pub SlotsFit-grows : (t u : Tables) → Grows t u → (o : Option ClassBody) → SlotsFit t o → SlotsFit u o
 SlotsFit-grows t u g None h = tt
 SlotsFit-grows t u g (Some b) h = record { few_slots = h.few_slots; bases_fit = λ v w. h.bases_fit v (Grows-then t u v g w) }
+
+-- whether a base has virtual functions is told once and for all
+
+virtual-stays : (t u : Tables) → Grows t u → (cs : List ClassId) (ns : List ℕ) → each (λ c. asked depth_of t (OfClass c)) cs ≡ Some ns → list_any (λ c. body_has_virtual (body_at u c)) cs ≡ list_any (λ c. body_has_virtual (body_at t c)) cs
+virtual-stays t u g [] ns e = refl
+virtual-stays t u g (c ∷ cs) ns e =
+    let i = both-some (asked depth_of t (OfClass c)) (each (λ c. asked depth_of t (OfClass c)) cs) ns e in
+    let b = asked-has_body depth_of t c i.0 i.2 in
+    ap (λ o. body_has_virtual o || list_any (λ w. body_has_virtual (body_at u w)) cs) (body-stays t u g c b.0 b.1 ∙ sym b.1)
+    ∙ ap (λ v. body_has_virtual (body_at t c) || v) (virtual-stays t u g cs i.1 i.3)
+
+pub fit-stays : (t u : Tables) → Grows t u → (k : ClassKey) (b : ClassBody) (d : ℕ) → body_answer depth_of (asked depth_of t) k b ≡ Some d → IsFit t k b → IsFit u k b
+fit-stays t u g k b d e h =
+    let i = joined-some (depth_of.of_class k b.flags) (each (λ c. asked depth_of t (OfClass c)) b.bases) (each (λ (f : Field). asked depth_of t (OfType f.ty)) b.fields) d e in
+    let same = virtual-stays t u g b.bases i.0 i.2 in
+    record { alone = h.alone; tells_virtual = λ n. h.tells_virtual (ap (λ v. nat_lt 0 (length b.slots) || (b.flags.virtual_dtor || v)) (sym same) ∙ n) }
+
+pub StaysFit-grows : (t u : Tables) → Grows t u → (k : ClassKey) (o : Option ClassBody) → StaysFit t k o → StaysFit u k o
+StaysFit-grows t u g k None h = tt
+StaysFit-grows t u g k (Some b) h = λ v w. h v (Grows-then t u v g w)
 
 -- where a slot of a base stands
 

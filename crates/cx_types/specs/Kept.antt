@@ -3,12 +3,16 @@
 use Rattle.std.specs.Prelude.{◌≡◌, ℕ, ◌+◌, ◌*◌, ◌^◌, ◌<◌, ◌≤◌, List, length, Option, None, Some, Result, Ok, Err, slice_get, option_map, option_and_then}
 use Rattle.cx_type_defs.specs.declared.ids.TypeId.{TypeId}
 use Rattle.cx_type_defs.specs.declared.ids.ClassId.{ClassId}
+use Rattle.cx_type_defs.specs.declared.ids.EnumId.{EnumId}
 use Rattle.cx_type_defs.specs.declared.ids.FuncId.{FuncId}
 use Rattle.cx_type_defs.specs.declared.kind.TypeRow.{TypeRow}
 use Rattle.cx_type_defs.specs.declared.kind.TypeKind.{TypeKind}
 use Rattle.cx_type_defs.specs.declared.kind.TypeKind.TheVariants as kind
 use Rattle.cx_type_defs.specs.declared.decl.ClassDecl.{ClassDecl}
 use Rattle.cx_type_defs.specs.declared.decl.ClassBody.{ClassBody}
+use Rattle.cx_type_defs.specs.declared.decl.ClassKey.{ClassKey}
+use Rattle.cx_type_defs.specs.declared.decl.EnumDecl.{EnumDecl}
+use Rattle.cx_type_defs.specs.declared.decl.EnumEnd.{EnumEnd}
 use Rattle.cx_type_defs.specs.declared.decl.Extent.{Extent}
 use Rattle.cx_types.specs.declared.facts.Facts.{Facts}
 use Rattle.cx_types.specs.declared.facts.RowFacts.{RowFacts}
@@ -16,6 +20,10 @@ use Rattle.cx_types.specs.declared.facts.Measure.{Measure}
 use Rattle.cx_type_defs.specs.declared.answer.TypeAnswer.{TypeAnswer}
 use Rattle.cx_type_defs.specs.Refusals.{kind_refusal}
 use Rattle.cx_type_defs.specs.Tables.{Tables, Grows, IsKnown, body_at, lists_function, declared_pure}
+use Rattle.cx_type_defs.specs.Levels.{part_of}
+use Rattle.cx_type_defs.specs.Same.{AreNormal}
+use Rattle.cx_type_defs.specs.Bodies.{IsFit}
+use Rattle.cx_type_defs.specs.Enums.{IsFixedIfScoped, IsUnder}
 use Rattle.cx_type_defs.specs.Slots.{base_slots}
 use Rattle.cx_type_defs.specs.Questions.{Part, OfType, OfClass, asked, address_answer, kind_answer, depth_of, cells_of, nodes_of, literal_of, extent_of}
 
@@ -77,6 +85,9 @@ pub record Kept (t : Tables) (facts : List RowFacts) (measures : List (Option Me
   pub each_row : length facts ≡ length t.rows
   pub each_class : length measures ≡ length t.classes
   pub known : (i : ℕ) (r : TypeRow) → slice_get t.rows i ≡ Some r → IsKnown t r.kind
+  pub older : (i : ℕ) (r : TypeRow) (part : TypeId) → slice_get t.rows i ≡ Some r → part_of r.kind ≡ Some part → part.0 < i
+  pub normal : AreNormal t
+  pub once : (i j : ℕ) (r : TypeRow) → slice_get t.rows i ≡ Some r → slice_get t.rows j ≡ Some r → i ≡ j
   pub rows_kept : (id : TypeId) (r : TypeRow) (f : RowFacts) → slice_get t.rows id.0 ≡ Some r → slice_get facts id.0 ≡ Some f → IsNoClass r.kind → KeptRow t id f
   pub classes_kept : (c : ClassId) (d : ClassDecl) (m : Option Measure) → slice_get t.classes c.0 ≡ Some d → slice_get measures c.0 ≡ Some m → KeptClass t c d.body m
 
@@ -89,10 +100,22 @@ abbrev pub SlotsFit : Tables → Option ClassBody → Type 0
 SlotsFit t None = Unit {0}
 SlotsFit t (Some b) = KeptSlots t b
 
+-- a class fits its key, now and where the tables have grown
+abbrev pub StaysFit : Tables → ClassKey → Option ClassBody → Type 0
+StaysFit t k None = Unit {0}
+StaysFit t k (Some b) = (u : Tables) → Grows t u → IsFit u k b
+
+-- an enumeration has a fixed type if it is scoped, and its list ended as it might
+pub record IsFitEnum (d : EnumDecl) : Type 0 where
+  pub scoped_fixed : IsFixedIfScoped d.scoped d.fixed
+  pub end_fits : (e : EnumEnd) → d.end ≡ Some e → IsUnder d.fixed e.under e.low e.high
+
 -- all that the tables keep: what is found of types and classes, the slots of bases, and the pure functions
 pub record AllKept (t : Tables) (facts : List RowFacts) (measures : List (Option Measure)) (pures : List FuncId) : Type 0 where
   pub measures_kept : Kept t facts measures
   pub slots_kept : (c : ClassId) (d : ClassDecl) → slice_get t.classes c.0 ≡ Some d → SlotsFit t d.body
+  pub bodies_fit : (c : ClassId) (d : ClassDecl) → slice_get t.classes c.0 ≡ Some d → StaysFit t d.key d.body
+  pub enums_fit : (e : EnumId) (d : EnumDecl) → slice_get t.enums e.0 ≡ Some d → IsFitEnum d
   pub pures_kept : (f : FuncId) → lists_function f pures ≡ declared_pure t f
 
 -- a row is of an incomplete class

@@ -1,6 +1,7 @@
 ghost use Rattle.std.specs.Prelude.{◌≡◌, ◌==◌, ℕ, ◌+◌, ◌-◌, ◌^◌, ◌<◌, ◌≤◌, ◌↔◌, [], ◌∷◌, ◌++◌, length, slice_get, Option, Some, None, is_some, option_map, IsSome, IfSome, IsTrue, IfOk, OnOk, OnErr};
 ghost use Rattle.cx_type_defs.specs.Tables.{Tables, no_types, with_class, with_enum, with_end, with_body, body_at, base_of, field_of, overrider, under_at, declared_pure};
-ghost use Rattle.cx_type_defs.specs.Enums.{MayEnd, values_at};
+ghost use Rattle.cx_type_defs.specs.Enums.{MayEnd, IsFixedIfScoped, values_at};
+ghost use Rattle.cx_type_defs.specs.Sound.{Sound};
 ghost use Rattle.cx_types.specs.Kept.{KeptClass};
 
 use crate::facts::{Measure, RowFacts};
@@ -18,7 +19,6 @@ use std::marker::Model;
 mod asks;
 mod close;
 mod intern;
-#[cfg(test)]
 mod known;
 mod slots;
 
@@ -60,6 +60,13 @@ impl Types {
             pures: FuncSet::new(alloc),
             enums: Vec::new(alloc),
         })
+    }
+
+    /// What holds of the tables whatever was put into them.
+    pub fn sound(&self)
+        ensures { Sound self.now }
+    {
+        let _ = self.rows.len();
     }
 
     /// The type with this number.
@@ -262,14 +269,16 @@ impl Types {
         Ok(id)
     }
 
-    /// A new enumeration, whose list hasn't ended; fewer than 2^32 - 1 were added before.
+    /// A new enumeration, whose list hasn't ended; fewer than 2^32 - 1 were added before. A scoped one has a fixed type:
+    /// where its declaration names none, that is int ([dcl.enum]).
     pub fn enum_add(
         &mut self,
         name: Text,
         scoped: bool,
         under: Option<IntType>,
     ) -> Result<EnumId, Memory>
-        requires { length self.old.enums < 2 ^ 32 - 1 }
+        requires room { length self.old.enums < 2 ^ 32 - 1 }
+        requires scoped { IsFixedIfScoped scoped under }
         ensures id { IfOk result (λ id. id.0 ≡ length self.old.enums) }
         ensures added { OnOk result (self.new ≡ with_enum self.old (record { name = name; scoped = scoped; fixed = under; end = None })) }
         ensures err { OnErr result (self.new ≡ self.old) }
@@ -285,7 +294,8 @@ impl Types {
         Ok(id)
     }
 
-    /// The enumeration's list ends: its underlying type, and its least and greatest enumerator, both 0 without one.
+    /// The enumeration's list ends: its underlying type, and its least and greatest enumerator, both 0 without one. The
+    /// type is the one that the declaration fixes, or else the one that `underlying_of` gives.
     pub fn enum_end(&mut self, id: EnumId, under: IntType, low: i128, high: i128)
         requires { MayEnd (slice_get self.old.enums id.0) under low high }
         ensures { self.new ≡ with_end self.old id (record { under = under; low = low; high = high }) }

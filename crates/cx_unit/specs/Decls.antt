@@ -3,6 +3,7 @@
 use Rattle.std.specs.Prelude.{ℤ, Bool, true, false, List, [], ◌∷◌, ◌++◌, Option, Some, None, is_some, Result, Ok, Err, if◌then◌else◌}
 use Rattle.std.specs.Fmt.{signed_decimal}
 use Rattle.cx_base.specs.declared.diag.Span.{Span}
+use Rattle.cx_base.specs.declared.limits.Limits.{Limits}
 use Rattle.cx_base.specs.declared.rule.Rule.{Rule}
 use Rattle.cx_base.specs.declared.rule.Rule.TheVariants as rule
 use Rattle.cx_tree.specs.declared.decls.Decl.{Decl}
@@ -32,11 +33,11 @@ use Rattle.cx_tree.specs.declared.stmts.Var.{Var}
 use Rattle.cx_unit.specs.declared.found.Broken.{Broken}
 use Rattle.cx_unit.specs.declared.found.Found.{Found}
 use Rattle.cx_unit.specs.declared.found.Found.TheVariants.{Wrong, OutOfRange, Value}
-use Rattle.cx_unit.specs.declared.verdict.Line.{Line}
-use Rattle.cx_unit.specs.declared.verdict.LineKind.TheVariants as line_kind
-use Rattle.cx_unit.specs.declared.verdict.Value.TheVariants as value
-use Rattle.cx_unit.specs.declared.verdict.Verdict.{Verdict}
-use Rattle.cx_unit.specs.declared.verdict.Verdict.TheVariants.{Accepted, Refused}
+use Rattle.cx_report.specs.declared.verdict.Line.{Line}
+use Rattle.cx_report.specs.declared.verdict.LineKind.TheVariants as line_kind
+use Rattle.cx_report.specs.declared.verdict.Value.TheVariants as value
+use Rattle.cx_report.specs.declared.verdict.Verdict.{Verdict}
+use Rattle.cx_report.specs.declared.verdict.Verdict.TheVariants.{Accepted, Refused}
 use Rattle.cx_unit.specs.Exprs.{Values, found_in}
 use Rattle.cx_unit.specs.Names.{value_among}
 
@@ -146,6 +147,6 @@ walked values lines [] = Accepted lines
 walked values lines (d ∷ ds) =
     with_constant (form_of d).span (form_of d).constant (λ c. with_value (declared values c) (λ z. walked (values ++ (c.0.text, z) ∷ []) (lines ++ line_of c.0 z ∷ []) ds))
 
--- what the tree of a unit gives
-abbrev pub verdict_of : Tree → Verdict
-verdict_of tree = walked [] [] tree.decls
+-- what the tree of a unit gives; no rule of a declaration of today looks at the limits
+abbrev pub verdict_of : Limits → Tree → Verdict
+verdict_of limits tree = walked [] [] tree.decls

@@ -1,5 +1,4 @@
 pub mod Decls
 pub mod Exprs
 pub mod Names
-pub mod Report
 pub mod Verdict

@@ -1,6 +1,7 @@
 -- The verdict of the bytes of a unit.
 use Rattle.std.specs.Prelude.{◌≡◌, ◌⊎◌, ℕ, Bool, true, false, List, [], length, nat_lt}
 use Rattle.cx_base.specs.declared.diag.Diag.{Diag}
+use Rattle.cx_base.specs.declared.limits.Limits.{Limits}
 use Rattle.cx_base.specs.declared.rule.Rule.TheVariants as rule
 use Rattle.cx_source.specs.Contents.{longest_source}
 use Rattle.cx_token_defs.specs.declared.Token.{Token}
@@ -12,8 +13,8 @@ use Rattle.cx_tree.specs.declared.decls.Unit.{Unit as Tree}
 use Rattle.cx_unit_parser.specs.declared.parsing.ParseAnswer.{ParseAnswer}
 use Rattle.cx_unit_parser.specs.declared.parsing.ParseAnswer.TheVariants as parsed
 use Rattle.cx_unit_parser.specs.Parsing.{IsFault, IsTree}
-use Rattle.cx_unit.specs.declared.verdict.Verdict.{Verdict}
-use Rattle.cx_unit.specs.declared.verdict.Verdict.TheVariants.{Refused}
+use Rattle.cx_report.specs.declared.verdict.Verdict.{Verdict}
+use Rattle.cx_report.specs.declared.verdict.Verdict.TheVariants.{Refused}
 use Rattle.cx_unit.specs.Decls.{verdict_of}
 
 -- too many bytes, told at the source's first place
@@ -22,11 +23,11 @@ source_too_long = Refused (record { span = record { start = mark_of []; end = ma
 
 -- ---- from the tokens on
 
--- the tokens spell a unit that has this verdict
-pub record IsVerdictOfTree (tokens : List Token) (verdict : Verdict) : Type 0 where
+-- the tokens spell a unit that has this verdict under the limits
+pub record IsVerdictOfTree (limits : Limits) (tokens : List Token) (verdict : Verdict) : Type 0 where
   pub tree : Tree
   pub spelled : IsTree tokens tree
-  pub judged : verdict ≡ verdict_of tree
+  pub judged : verdict ≡ verdict_of limits tree
 
 -- the verdict tells the first token that no unit goes on with
 pub record IsVerdictOfSyntax (tokens : List Token) (verdict : Verdict) : Type 0 where
@@ -34,17 +35,17 @@ pub record IsVerdictOfSyntax (tokens : List Token) (verdict : Verdict) : Type 0 
   pub found : IsFault tokens fault
   pub judged : verdict ≡ Refused fault
 
--- the tokens have this verdict: that of their tree, or their first syntax fault
-abbrev pub IsVerdictFrom : List Token → Verdict → Type 0
-IsVerdictFrom tokens verdict = IsVerdictOfSyntax tokens verdict ⊎ IsVerdictOfTree tokens verdict
+-- the tokens have this verdict under the limits: that of their tree, or their first syntax fault
+abbrev pub IsVerdictFrom : Limits → List Token → Verdict → Type 0
+IsVerdictFrom limits tokens verdict = IsVerdictOfSyntax tokens verdict ⊎ IsVerdictOfTree limits tokens verdict
 
 -- ---- from the bytes on
 
 -- some tokens of the bytes have this verdict
-pub record IsVerdictOfTokens (bytes : List ℕ) (verdict : Verdict) : Type 0 where
+pub record IsVerdictOfTokens (limits : Limits) (bytes : List ℕ) (verdict : Verdict) : Type 0 where
   pub tokens : List Token
   pub lexed : Lexes bytes tokens
-  pub judged : IsVerdictFrom tokens verdict
+  pub judged : IsVerdictFrom limits tokens verdict
 
 -- the bytes have this fault first
 pub record IsVerdictOfFault (bytes : List ℕ) (verdict : Verdict) : Type 0 where
@@ -52,13 +53,13 @@ pub record IsVerdictOfFault (bytes : List ℕ) (verdict : Verdict) : Type 0 wher
   pub found : LexFault bytes fault
   pub judged : verdict ≡ Refused fault
 
-abbrev pub IsVerdictIf : Bool → List ℕ → Verdict → Type 0
-IsVerdictIf true bytes verdict = verdict ≡ source_too_long
-IsVerdictIf false bytes verdict = IsVerdictOfFault bytes verdict ⊎ IsVerdictOfTokens bytes verdict
+abbrev pub IsVerdictIf : Bool → Limits → List ℕ → Verdict → Type 0
+IsVerdictIf true limits bytes verdict = verdict ≡ source_too_long
+IsVerdictIf false limits bytes verdict = IsVerdictOfFault bytes verdict ⊎ IsVerdictOfTokens limits bytes verdict
 
--- the bytes that were read have this verdict: there are too many, or it is their first lexical fault, or that of their tokens
-abbrev pub IsVerdict : List ℕ → Verdict → Type 0
-IsVerdict bytes verdict = IsVerdictIf (nat_lt longest_source (length bytes)) bytes verdict
+-- the bytes have this verdict under the limits: there are too many, or it is their first lexical fault, or that of their tokens
+abbrev pub IsVerdict : Limits → List ℕ → Verdict → Type 0
+IsVerdict limits bytes verdict = IsVerdictIf (nat_lt longest_source (length bytes)) limits bytes verdict
 
 -- the verdict is that of a lexical fault
 abbrev pub RefusedBy : LexAnswer → Verdict → Type 0

@@ -7,8 +7,8 @@ ghost use Rattle.cx_unit.specs.Decls as spec;
 use crate::exprs::found_in;
 use crate::found::{Broken, Found};
 use crate::names::Names;
-use crate::verdict::{Line, LineKind, Value, Verdict};
-use cx_base::{Diag, List, Memory, Rule, Span, Text};
+use cx_base::{Diag, Limits, List, Memory, Rule, Span, Text};
+use cx_report::{Line, LineKind, Value, Verdict};
 use cx_tree::{
     Decl, DeclKind, Entity, EntityKind, Expr, Ident, InitKind, ModifierWord, Specs, SpecsType,
     TypeWord, Unit, Var,
@@ -145,8 +145,8 @@ fn left_out(alloc: Global, span: Span) -> Verdict
 
 /// The verdict of a unit: a line for each constant, or the first rule that a declaration breaks.
 #[tactic(auto, unfolding(crate::specs::Decls::walked))]
-pub fn verdict_of(alloc: Global, unit: &Unit) -> Result<Verdict, Memory>
-    ensures { IfOk result (λ verdict. verdict ≡ spec.verdict_of unit.now) }
+pub fn verdict_of(alloc: Global, unit: &Unit, _limits: Limits) -> Result<Verdict, Memory>
+    ensures { IfOk result (λ verdict. verdict ≡ spec.verdict_of _limits unit.now) }
 {
     let mut values = Names::new(alloc);
     let mut lines = List::new(alloc);

@@ -6,10 +6,7 @@ mod exprs;
 mod found;
 mod names;
 mod operators;
-mod reports;
 mod units;
-mod verdict;
 
-pub use reports::report;
+pub use cx_report::{Line, LineKind, Mode, Value, Verdict, report, summary};
 pub use units::{run_unit, too_long, verdict_on};
-pub use verdict::{Line, LineKind, Mode, Value, Verdict};

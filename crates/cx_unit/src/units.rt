@@ -1,13 +1,14 @@
 //! The verdict on a unit.
-ghost use Rattle.std.specs.Prelude.{◌≡◌, ◌≤◌, length, IfOk};
+ghost use Rattle.std.specs.Prelude.{◌≡◌, ◌≤◌, true, length, IfOk};
+ghost use Rattle.cx_base.specs.Limits.{limits_allowed};
 ghost use Rattle.cx_base.specs.Only.{IsOnly};
 ghost use Rattle.cx_unit_parser.specs.Parsing.{EndsInEnd};
 ghost use Rattle.cx_unit.specs.Verdict.{IsVerdict, IsVerdictFrom, RefusedBy, StoppedBy, source_too_long};
 
 use crate::decls::{refused, verdict_of};
 use crate::found::Broken;
-use crate::verdict::Verdict;
 use cx_base::{Limits, List, Mark, Memory, Rule, Span};
+use cx_report::Verdict;
 use cx_tokens::{LexAnswer, Token, lex};
 use cx_unit_parser::{ParseAnswer, parse_unit};
 use std::alloc::Global;
@@ -21,14 +22,15 @@ fn stopped_by(answer: ParseAnswer) -> Result<Verdict, Memory>
     }
 }
 
-/// The one verdict of the tokens of a unit, the last of which is that of the source's end: its first token that no unit
-/// goes on with, else the first rule that a declaration breaks, else a line for each constant.
-pub fn run_unit(alloc: Global, tokens: &List<Token>, _limits: Limits) -> Result<Verdict, Memory>
-    requires { EndsInEnd tokens.now }
-    ensures { IfOk result (IsOnly (IsVerdictFrom tokens.now)) }
+/// The one verdict under these limits of the tokens of a unit, the last of which is that of the source's end: its first
+/// token that no unit goes on with, else the first rule that a declaration breaks, else a line for each constant.
+pub fn run_unit(alloc: Global, tokens: &List<Token>, limits: Limits) -> Result<Verdict, Memory>
+    requires end { EndsInEnd tokens.now }
+    requires allowed { limits_allowed limits ≡ true }
+    ensures { IfOk result (IsOnly (IsVerdictFrom limits tokens.now)) }
 {
     match parse_unit(alloc, tokens) {
-        Ok(unit) => verdict_of(alloc, &unit),
+        Ok(unit) => verdict_of(alloc, &unit, limits),
         Err(answer) => stopped_by(answer),
     }
 }
@@ -64,11 +66,12 @@ fn refused_by(answer: LexAnswer) -> Result<Verdict, Memory>
     }
 }
 
-/// The one verdict on a source of these bytes, which are at most 4,194,304: its first lexical fault, or the verdict of its
-/// tokens.
+/// The one verdict under these limits on a source of these bytes, which are at most 4,194,304: its first lexical fault,
+/// or the verdict of its tokens.
 pub fn verdict_on(alloc: Global, bytes: &[u8], limits: Limits) -> Result<Verdict, Memory>
-    requires { length bytes.now ≤ 4_194_304 }
-    ensures { IfOk result (IsOnly (IsVerdict bytes.now)) }
+    requires short { length bytes.now ≤ 4_194_304 }
+    requires allowed { limits_allowed limits ≡ true }
+    ensures { IfOk result (IsOnly (IsVerdict limits bytes.now)) }
 {
     match lex(alloc, bytes) {
         Ok(tokens) => run_unit(alloc, &tokens, limits),

@@ -1,5 +1,6 @@
 //! Cases of whole units.
-ghost use Rattle.std.specs.Prelude.{◌≤◌, length, IfOk};
+ghost use Rattle.std.specs.Prelude.{◌≡◌, ◌≤◌, true, length, IfOk};
+ghost use Rattle.cx_base.specs.Limits.{limits_allowed};
 ghost use Rattle.cx_vectors.specs.Cases.{TellsReport};
 
 use cx_base::{Limits, Memory};
@@ -22,8 +23,9 @@ pub struct Cases<const N: usize> {
 
 /// Whether the report of the one verdict on the unit is exactly the case's.
 pub fn run_case(alloc: Global, case: &Case) -> Result<bool, Memory>
-    requires { length case.now.source.now ≤ 4_194_304 }
-    ensures { IfOk result (TellsReport case.now.source.now case.now.report.now) }
+    requires short { length case.now.source.now ≤ 4_194_304 }
+    requires allowed { limits_allowed case.now.limits ≡ true }
+    ensures { IfOk result (TellsReport case.now.limits case.now.source.now case.now.report.now) }
 {
     let verdict = verdict_on(alloc, case.source.as_bytes(), case.limits)?;
     let text = report(alloc, &verdict, Mode::Print)?;

@@ -3,10 +3,6 @@
 
 mod cases;
 mod ints;
-#[cfg(test)]
-mod tests;
-#[cfg(test)]
-mod unit_tests;
 
 pub use cases::{Case, Cases, run_case};
 pub use ints::{IntCase, IntCases, int_case};

@@ -35,9 +35,6 @@ takes_element t os p q of count i v a n l e = subst (λ r. IsOf (λ r. MayHold t
 pub still_array : (t : Tables) (old new : Objects) (p q : Path) (of : TypeId) (count : ℕ) → q ≡ p → StillKnows old new → IsArray t old p of count → IsArray t new q of count
 still_array t old new p q of count e k a = record { row = a.row; is_row = subst (λ x. row_of t new x ≡ Some a.row) (sym e) (k.types t p a.row a.is_row); is_array = a.is_array }
 
-pub still_then : (a b c : Objects) → StillKnows a b → StillKnows b c → StillKnows a c
-still_then a b c k l = record { types = λ t p r e. l.types t p r (k.types t p r e); places = λ t p e. l.places t p (k.places t p e) }
-
 written_length : (b : Option Rule) (os new put_os : Objects) (r : Result (Unit {0}) Rule) → length put_os ≡ length os → Changed (unless b put_os) os new r → length new ≡ length os
 written_length None os new put_os r l c = ap length c.1 ∙ l
 written_length (Some x) os new put_os r l c = ap length c.1

@@ -1,1 +1,2 @@
-mod Elements
+pub mod Elements
+pub mod Pointing

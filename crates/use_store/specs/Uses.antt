@@ -1,4 +1,4 @@
--- What the three functions give, by the steps on objects.
+-- What the functions give, by the steps on objects.
 use Rattle.std.specs.Prelude.{◌≡◌, ℕ, Bool, true, false, Option, None, Some, slice_get, Result, Ok, Err}
 use Rattle.cx_base.specs.declared.rule.Rule.{Rule}
 use Rattle.cx_ints.specs.declared.int.Int.{Int}
@@ -15,6 +15,8 @@ use Rattle.cx_ints.specs.Ranges as ranges
 use Rattle.cx_state.specs.Places.{row_of}
 use Rattle.cx_state.specs.Objects.{Path, Objects}
 use Rattle.cx_state.specs.Steps.{deeper, to_field, store}
+use Rattle.cx_state.specs.Alike.{Alike}
+use Rattle.cx_state.specs.Forms.{HoldsValue}
 use Rattle.cx_store.specs.Stores.{HasField, IsScalarAt, MayTake}
 
 abbrev pub integer : {P : Type 0} → Scalar P → Option Int
@@ -52,6 +54,29 @@ abbrev pub Writes : Tables → Objects → Objects → ℕ → Int → Result (S
 Writes t old new m i (Ok (scalar.Place p)) result = WritesAt t old new i (to_field t old p m) result
 Writes t old new m i (Ok v) result = (result ≡ Ok false) × (new ≡ old)
 Writes t old new m i (Err r) result = (result ≡ Err r) × (new ≡ old)
+
+-- At `to` is a pointer to a scalar type, and at `from` a scalar of that type, const at any level aside ([expr.ass]).
+pub record PointsToSame (t : Tables) (os : Objects) (to from : Path) : Type 0 where
+  pub pointer : TypeRow
+  pub is_at_to : row_of t os to ≡ Some pointer
+  pub part : TypeId
+  pub is_pointer : pointer.kind ≡ kind.Pointer part
+  pub led : TypeRow
+  pub is_led : slice_get t.rows part.0 ≡ Some led
+  pub given : TypeRow
+  pub is_at_from : row_of t os from ≡ Some given
+  pub is_scalar : HoldsValue given.kind
+  pub same : Alike t given.kind led.kind
+
+abbrev pub AssignsAt : Tables → Objects → Objects → Scalar Path → Result (Scalar Path) Rule → Result Bool Rule → Type 0
+AssignsAt t old new v (Ok (scalar.Place p)) result = IsDone (store t old p v) old new result
+AssignsAt t old new v (Ok w) result = (result ≡ Ok false) × (new ≡ old)
+AssignsAt t old new v (Err r) result = (result ≡ Err r) × (new ≡ old)
+
+-- what is given is loaded first, and then where it goes
+abbrev pub Assigns : Tables → Objects → Objects → Result (Scalar Path) Rule → Result (Scalar Path) Rule → Result Bool Rule → Type 0
+Assigns t old new (Ok v) to result = AssignsAt t old new v to result
+Assigns t old new (Err r) to result = (result ≡ Err r) × (new ≡ old)
 
 -- an integer type, and a value of it
 pub record IsOfInts (t : Tables) (of : TypeId) (i : Int) : Type 0 where

@@ -1,11 +1,11 @@
-//! Three small functions over any store, as the machine will use one: they stand on the trait's promises alone.
+//! Small functions over any store, as the machine will use one: they stand on the trait's promises alone.
 #![tactic(auto)]
 
 ghost use Rattle.std.specs.Prelude.{◌≡◌, suc, length, IfOk, Some};
 ghost use Rattle.cx_state.specs.Forms.{Knows};
 ghost use Rattle.cx_state.specs.Steps as steps;
 ghost use Rattle.cx_store.specs.Stores as says;
-ghost use Rattle.cx_store.specs.Stores.{Changed};
+ghost use Rattle.cx_store.specs.Stores.{seen};
 ghost use Rattle.use_store.specs.Uses as uses;
 
 use cx_base::{Limits, Rule};
@@ -67,6 +67,53 @@ pub fn write_member<S: Store>(
             Ok(true)
         }
         _ => Ok(false),
+    }
+}
+
+/// Stores through a pointer, as `*to = from` does: what is at `from` goes to where the pointer at `to` leads. False where it
+/// leads nowhere. What is given may be a pointer itself.
+pub fn assign_through<S: Store>(
+    store: &mut S,
+    types: &Types,
+    to: S::Place,
+    from: S::Place,
+) -> Result<bool, Rule>
+    requires fits { S.fits store.old types.now }
+    requires to_known { Knows types.now (S.objects store.old) (S.path store.old to) }
+    requires from_known { Knows types.now (S.objects store.old) (S.path store.old from) }
+    requires same { uses.PointsToSame types.now (S.objects store.old) (S.path store.old to) (S.path store.old from) }
+    ensures assigned { uses.Assigns types.now (S.objects store.old) (S.objects store.new) (steps.load types.now (S.objects store.old) (S.path store.old from)) (steps.load types.now (S.objects store.old) (S.path store.old to)) result }
+    ensures paths { S.path store.new ≡ S.path store.old }
+{
+    let value = store.load(types, from)?;
+    match store.load(types, to)? {
+        Scalar::Place(target) => {
+            store.store(types, target, value)?;
+            Ok(true)
+        }
+        _ => Ok(false),
+    }
+}
+
+/// Makes an object of a type while a place is held, and reads there what stood there before.
+pub fn make_and_read<S: Store>(
+    store: &mut S,
+    types: &Types,
+    held: S::Place,
+    ty: TypeId,
+    limits: &Limits,
+) -> Result<Scalar<S::Place>, StoreAnswer>
+    requires fits { S.fits store.old types.now }
+    requires known { Knows types.now (S.objects store.old) (S.path store.old held) }
+    requires scalar { says.IsScalarAt types.now (S.objects store.old) (S.path store.old held) }
+    requires whole { says.IsWhole types.now ty None }
+    ensures read { IfOk result (λ v. Ok (seen (S.path store.new) v) ≡ steps.load types.now (S.objects store.old) (S.path store.old held)) }
+    ensures knows { says.StillKnows (S.objects store.old) (S.objects store.new) }
+{
+    let _ = store.make(types, ty, None, Kind::Auto, false, Birth::Here, limits)?;
+    match store.load(types, held) {
+        Ok(value) => Ok(value),
+        Err(rule) => Err(StoreAnswer::Rule(rule)),
     }
 }
 

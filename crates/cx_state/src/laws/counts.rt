@@ -1,15 +1,15 @@
 //! The numbers of objects and cells, and the limits on them ([implimits], [expr.const]).
 
-ghost use Rattle.std.specs.Prelude.{◌≡◌, ◌↔◌, ◌⊎◌, ℕ, suc, ◌+◌, ◌<◌, ◌≤◌, Bool, true, false, [], length, Some, Ok, Err, slice_get, if◌then◌else◌};
+ghost use Rattle.std.specs.Prelude.{◌≡◌, ◌↔◌, ◌⊎◌, ℕ, suc, ◌+◌, ◌<◌, ◌≤◌, true, false, [], length, Some, Ok, Err, slice_get, if◌then◌else◌};
 ghost use Rattle.cx_base.specs.declared.rule.Rule.{Rule};
 ghost use Rattle.cx_base.specs.declared.rule.Rule.TheVariants as rule;
 ghost use Rattle.cx_base.specs.declared.limits.Limits.{Limits};
 ghost use Rattle.cx_type_defs.specs.Tables.{Tables};
 ghost use Rattle.cx_state.specs.Objects.{Path, Object, Objects};
-ghost use Rattle.cx_state.specs.Steps.{init, store, advance, activate, release, settle, cut};
+ghost use Rattle.cx_state.specs.Steps.{Write, write, release, settle, cut};
 ghost use Rattle.cx_state.specs.Counts.{Request, counts, new_object, cells_in, live_cells, make, next_place, SameCounts};
 
-use crate::kind::{Birth, Phase, Scalar};
+use crate::kind::Birth;
 
 /// A new object is one more, its cells are added where it counts, and both numbers stay within their limits.
 pub fn made_objects_count()
@@ -35,10 +35,7 @@ pub fn released_objects_count()
 
 /// Nothing else that is done to an object changes these numbers.
 pub fn counts_stay()
-    ensures init { (t : Tables) (os now : Objects) (p : Path) (v : Scalar Path) → init t os p v ≡ Ok now → SameCounts t os now }
-    ensures store { (t : Tables) (os now : Objects) (p : Path) (v : Scalar Path) → store t os p v ≡ Ok now → SameCounts t os now }
-    ensures advance { (t : Tables) (os now : Objects) (p : Path) (to : Phase) → advance t os p to ≡ Ok now → SameCounts t os now }
-    ensures activate { (t : Tables) (os now : Objects) (p : Path) (m : ℕ) (alive : Bool) → activate t os p m alive ≡ Ok now → SameCounts t os now }
+    ensures write { (t : Tables) (os now : Objects) (p : Path) (w : Write) → write t os p w ≡ Ok now → SameCounts t os now }
     ensures settle { (t : Tables) (os : Objects) (p : Path) (b : Birth) → SameCounts t os (settle os p b) }
 {}
 

@@ -1,14 +1,13 @@
 //! What each step on objects changes, and that it changes nothing else ([basic.life], [class.union], [expr.ass]).
 
-ghost use Rattle.std.specs.Prelude.{◌≡◌, ℕ, suc, ◌<◌, ◌≤◌, Bool, true, false, List, [], ◌∷◌, ◌++◌, length, min, Option, Some, None, Ok, option_map, slice_get};
+ghost use Rattle.std.specs.Prelude.{◌≡◌, ℕ, suc, ◌<◌, ◌≤◌, Bool, true, false, List, ◌∷◌, length, min, Some, None, Ok, slice_get};
 ghost use Rattle.cx_base.specs.declared.limits.Limits.{Limits};
 ghost use Rattle.cx_type_defs.specs.Tables.{Tables};
-ghost use Rattle.cx_state.specs.declared.kind.Scalar.{Scalar};
-ghost use Rattle.cx_state.specs.Objects.{Path, Tree, Trees, Leaf, Class, Active, Object, Objects, at};
+ghost use Rattle.cx_state.specs.Objects.{Path, Tree, Trees, Class, Union, Active, Object, Objects, at};
 ghost use Rattle.cx_state.specs.Places.{row_of};
-ghost use Rattle.cx_state.specs.Conditions.{is_union, phase_number};
+ghost use Rattle.cx_state.specs.Conditions.{is_union, is_here, phase_number};
 ghost use Rattle.cx_state.specs.Pointers.{is_dangling};
-ghost use Rattle.cx_state.specs.Steps.{init, store, advance, activate, release, settle, cut, member_of, member_tree, activated, begun, is_ended, given_up, whole_path};
+ghost use Rattle.cx_state.specs.Steps.{Write, written, write, advance, activate, deactivate, release, settle, cut, member_of, member_tree, begun, is_ended, given_up, whole_path};
 ghost use Rattle.cx_state.specs.Counts.{Request, new_object, make, next_place};
 ghost use Rattle.cx_state.specs.Elsewhere.{within, is_over, Elsewhere, OneObject};
 
@@ -18,18 +17,13 @@ use cx_type_defs::Step;
 /// A step that writes at a path changes nothing elsewhere: no other object, nothing of this one's record but the tree,
 /// and nothing aside of the path.
 pub fn steps_stay_at_their_path()
-    ensures init { (t : Tables) (os : Objects) (p : Path) (v : Scalar Path) (new : Objects) → init t os p v ≡ Ok new → Elsewhere os new p }
-    ensures store { (t : Tables) (os : Objects) (p : Path) (v : Scalar Path) (new : Objects) → store t os p v ≡ Ok new → Elsewhere os new p }
-    ensures advance { (t : Tables) (os : Objects) (p : Path) (to : Phase) (new : Objects) → advance t os p to ≡ Ok new → Elsewhere os new p }
-    ensures activate { (t : Tables) (os : Objects) (p : Path) (m : ℕ) (alive : Bool) (new : Objects) → activate t os p m alive ≡ Ok new → Elsewhere os new p }
+    ensures { (t : Tables) (os : Objects) (p : Path) (w : Write) (new : Objects) → write t os p w ≡ Ok new → Elsewhere os new p }
 {}
 
-/// What then stands at the path: after a write the value, and the phase of a class with its bases and members as they
-/// were, which comes next after the phase before.
+/// What then stands at the path is what the write makes of what stood there: the value, or the phase of a class with its
+/// bases and members as they were, which comes next after the phase before, or a union with another active member.
 pub fn writes_are_there()
-    ensures init { (t : Tables) (os : Objects) (p : Path) (v : Scalar Path) (new : Objects) (x : Tree) → init t os p v ≡ Ok new → at os p ≡ Some x → at new p ≡ Some (Leaf v) }
-    ensures store { (t : Tables) (os : Objects) (p : Path) (v : Scalar Path) (new : Objects) (x : Tree) → store t os p v ≡ Ok new → at os p ≡ Some x → at new p ≡ Some (Leaf v) }
-    ensures phase { (t : Tables) (os : Objects) (p : Path) (to from : Phase) (new : Objects) (bases members : Trees) → advance t os p to ≡ Ok new → at os p ≡ Some (Class from bases members) → at new p ≡ Some (Class to bases members) }
+    ensures written { (t : Tables) (os : Objects) (p : Path) (w : Write) (new : Objects) (x : Tree) → write t os p w ≡ Ok new → at os p ≡ Some x → at new p ≡ Some (written t (row_of t os p) w x) }
     ensures next_phase { (t : Tables) (os : Objects) (p : Path) (to : Phase) (new : Objects) (o : Object) → slice_get os p.object ≡ Some o → advance t os p to ≡ Ok new → (from : Phase) × (bases : Trees) × (members : Trees) × (at os p ≡ Some (Class from bases members)) × (suc (phase_number from) ≡ phase_number to) }
     ensures parts_stay { (t : Tables) (os : Objects) (p : Path) (to : Phase) (new : Objects) (s : Step) (ss : List Step) (past : Bool) → advance t os p to ≡ Ok new → at new (within p (s ∷ ss) past) ≡ at os (within p (s ∷ ss) past) }
 {}
@@ -41,6 +35,17 @@ pub fn activation_is_there()
     ensures new_tree { (t : Tables) (os : Objects) (p : Path) (m : ℕ) (alive : Bool) (new : Objects) (x : Tree) → activate t os p m alive ≡ Ok new → at os p ≡ Some x → is_union x ≡ true → (member_of (Some x) ≡ Some m → ⊥) → at new p ≡ Some (Active m (member_tree t (begun alive) m (row_of t os p))) }
     ensures anew { (t : Tables) (os : Objects) (p : Path) (m : ℕ) (alive : Bool) (new : Objects) (x : Tree) → activate t os p m alive ≡ Ok new → at os p ≡ Some (Active m x) → is_ended x ≡ true → at new p ≡ Some (Active m (member_tree t (begun alive) m (row_of t os p))) }
     ensures again { (t : Tables) (os : Objects) (p : Path) (m : ℕ) (alive : Bool) (new : Objects) (x : Tree) → activate t os p m alive ≡ Ok new → at os p ≡ Some (Active m x) → is_ended x ≡ false → new ≡ os }
+{}
+
+/// A union that is deactivated has no active member; one that had none is as it was.
+pub fn deactivation_is_there()
+    ensures none { (t : Tables) (os : Objects) (p : Path) (new : Objects) (x : Tree) → deactivate t os p ≡ Ok new → at os p ≡ Some x → is_union x ≡ true → at new p ≡ Some Union }
+    ensures again { (t : Tables) (os : Objects) (p : Path) (new : Objects) → deactivate t os p ≡ Ok new → at os p ≡ Some Union → new ≡ os }
+{}
+
+/// An object that wasn't made in this evaluation is changed by no write.
+pub fn objects_from_before_stay()
+    ensures { (t : Tables) (os : Objects) (p : Path) (w : Write) (new : Objects) (i : ℕ) (o : Object) → slice_get os i ≡ Some o → is_here o.birth ≡ false → write t os p w ≡ Ok new → slice_get new i ≡ Some o }
 {}
 
 /// Giving an object up, and settling its birth, change that one object. In one that is given up nothing has a value,

@@ -1,6 +1,6 @@
 //! Objects keep the forms of their types ([basic.types.general], [basic.life]).
 
-ghost use Rattle.std.specs.Prelude.{◌≡◌, ℕ, ◌<◌, Bool, true, List, [], Option, None, Some, Result, Ok, slice_get, length};
+ghost use Rattle.std.specs.Prelude.{◌≡◌, ℕ, ◌<◌, Bool, true, [], Option, None, Some, Ok, slice_get, length};
 ghost use Rattle.cx_type_defs.specs.declared.kind.TypeKind.TheVariants as kind;
 ghost use Rattle.cx_type_defs.specs.Tables.{Tables, field_of};
 ghost use Rattle.cx_type_defs.specs.Questions.{OfType, asked, is_complete};
@@ -8,9 +8,10 @@ ghost use Rattle.cx_state.specs.declared.kind.Scalar.{Scalar};
 ghost use Rattle.cx_state.specs.Objects.{Path, Tree, Leaf, Object, Objects, at};
 ghost use Rattle.cx_state.specs.Places.{whole_kind, row_of};
 ghost use Rattle.cx_state.specs.Conditions.{Access, is_touching, broken};
-ghost use Rattle.cx_state.specs.Steps.{new_in, new_tree, ended, load, active, init, store, advance, activate, release, settle, cut};
+ghost use Rattle.cx_state.specs.Steps.{new_in, new_tree, ended, load, active, Write, write, release, settle, cut};
 ghost use Rattle.cx_state.specs.Counts.{Request, whole_tree, ended_tree, make};
 ghost use Rattle.cx_state.specs.Forms.{HoldsValue, HoldsBelow, MayHold, Form, TreeFits, ObjectFits, Fit};
+ghost use Rattle.cx_state.specs.Asked.{GivesValue, NamesMember};
 
 use crate::kind::{Birth, Phase};
 use cx_base::Limits;
@@ -34,17 +35,10 @@ pub fn making_keeps_forms()
     ensures make { (t : Tables) (limits : Limits) (os ns : Objects) (q : Request) → Fit t os → is_complete t q.ty ≡ true → make t limits os q ≡ Ok ns → Fit t ns }
 {}
 
-/// Writing keeps the forms, where the place is known, a scalar or reference, and may hold the value.
+/// A write keeps the forms, where the place may hold the value that is given, and the class there has the member that is
+/// activated.
 pub fn writing_keeps_forms()
-    ensures init { (t : Tables) (os ns : Objects) (p : Path) (row : TypeRow) (v : Scalar Path) → Fit t os → row_of t os p ≡ Some row → HoldsValue row.kind → MayHold t os row.kind v → init t os p v ≡ Ok ns → Fit t ns }
-    ensures store { (t : Tables) (os ns : Objects) (p : Path) (row : TypeRow) (v : Scalar Path) → Fit t os → row_of t os p ≡ Some row → HoldsValue row.kind → MayHold t os row.kind v → store t os p v ≡ Ok ns → Fit t ns }
-{}
-
-/// Another phase keeps the forms, and so does another active member, where the place is known and of a class and the
-/// member is one of the class's.
-pub fn steps_of_classes_keep_forms()
-    ensures advance { (t : Tables) (os ns : Objects) (p : Path) (to : Phase) → Fit t os → advance t os p to ≡ Ok ns → Fit t ns }
-    ensures activate { (t : Tables) (os ns : Objects) (p : Path) (m : ℕ) (alive : Bool) (row : TypeRow) (c : ClassId) (f : Field) → Fit t os → row_of t os p ≡ Some row → row.kind ≡ kind.Class c → field_of t c m ≡ Some f → activate t os p m alive ≡ Ok ns → Fit t ns }
+    ensures { (t : Tables) (os ns : Objects) (p : Path) (w : Write) → Fit t os → GivesValue t os p w → NamesMember t os p w → write t os p w ≡ Ok ns → Fit t ns }
 {}
 
 /// Releasing an object and settling its birth keep the forms, and so does cutting objects off, where none that stays

@@ -1,22 +1,21 @@
 //! Types that come later change no answer: where the tables grow, objects keep their forms, places their types, and each
 //! step answers as before ([basic.types.general], [class.mem]).
 
-ghost use Rattle.std.specs.Prelude.{◌≡◌, ℕ, Bool, true, Option, Some, ℤ};
-ghost use Rattle.cx_type_defs.specs.declared.kind.TypeKind.TheVariants as kind;
-ghost use Rattle.cx_type_defs.specs.Tables.{Tables, Grows, field_of};
+ghost use Rattle.std.specs.Prelude.{◌≡◌, ℕ, true, Some, ℤ};
+ghost use Rattle.cx_type_defs.specs.Tables.{Tables, Grows};
 ghost use Rattle.cx_type_defs.specs.Questions.{is_complete};
 ghost use Rattle.cx_state.specs.declared.kind.Scalar.{Scalar};
 ghost use Rattle.cx_state.specs.Objects.{Path, Objects};
 ghost use Rattle.cx_state.specs.Places.{row_of};
 ghost use Rattle.cx_state.specs.Conditions.{Access, broken};
 ghost use Rattle.cx_state.specs.Pointers.{add, less, equal};
-ghost use Rattle.cx_state.specs.Steps.{to_field, to_base, to_elem, load, active, call_on, outer, dynamic_class, init, store, advance, activate};
+ghost use Rattle.cx_state.specs.Steps.{to_field, to_base, to_elem, load, active, call_on, outer, dynamic_class, Write, write};
 ghost use Rattle.cx_state.specs.Counts.{Request, live_cells, make};
 ghost use Rattle.cx_state.specs.Forms.{MayHold, Fit, Knows};
+ghost use Rattle.cx_state.specs.Asked.{NamesMember};
 
-use crate::kind::Phase;
 use cx_base::Limits;
-use cx_type_defs::{ClassId, Field, TypeKind, TypeRow};
+use cx_type_defs::{ClassId, TypeKind, TypeRow};
 
 /// Objects that have the forms of their types have them in the grown tables; a known place stays known and keeps its
 /// type, which may hold what it might hold before.
@@ -46,10 +45,7 @@ pub fn growth_keeps_reads()
 
 /// What is written is the same; a member that is activated is one of the class's.
 pub fn growth_keeps_writes()
-    ensures init { (t u : Tables) → Grows t u → (os : Objects) → Fit t os → (p : Path) → Knows t os p → (v : Scalar Path) → init u os p v ≡ init t os p v }
-    ensures store { (t u : Tables) → Grows t u → (os : Objects) → Fit t os → (p : Path) → Knows t os p → (v : Scalar Path) → store u os p v ≡ store t os p v }
-    ensures advance { (t u : Tables) → Grows t u → (os : Objects) → Fit t os → (p : Path) → Knows t os p → (to : Phase) → advance u os p to ≡ advance t os p to }
-    ensures activate { (t u : Tables) → Grows t u → (os : Objects) → Fit t os → (p : Path) (m : ℕ) (alive : Bool) (row : TypeRow) (c : ClassId) (f : Field) → row_of t os p ≡ Some row → row.kind ≡ kind.Class c → field_of t c m ≡ Some f → activate u os p m alive ≡ activate t os p m alive }
+    ensures { (t u : Tables) → Grows t u → (os : Objects) → Fit t os → (p : Path) → Knows t os p → (w : Write) → NamesMember t os p w → write u os p w ≡ write t os p w }
 {}
 
 /// Pointers to known places are moved and compared the same.

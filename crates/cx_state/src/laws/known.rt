@@ -1,6 +1,6 @@
 //! Known places: which stay known, and which steps give known places ([basic.compound], [expr.add]).
 
-ghost use Rattle.std.specs.Prelude.{◌≡◌, ℕ, ◌<◌, ◌≤◌, Bool, length, Some, Ok, ℤ};
+ghost use Rattle.std.specs.Prelude.{◌≡◌, ℕ, ◌<◌, ◌≤◌, length, Some, Ok, ℤ};
 ghost use Rattle.cx_base.specs.declared.limits.Limits.{Limits};
 ghost use Rattle.cx_type_defs.specs.declared.ids.TypeId.{TypeId};
 ghost use Rattle.cx_type_defs.specs.declared.ids.ClassId.{ClassId};
@@ -11,21 +11,18 @@ ghost use Rattle.cx_type_defs.specs.declared.decl.Field.{Field};
 ghost use Rattle.cx_type_defs.specs.Tables.{Tables, base_of, field_of};
 ghost use Rattle.cx_state.specs.Objects.{Path, Tree, Objects, put};
 ghost use Rattle.cx_state.specs.Places.{row_of};
-ghost use Rattle.cx_state.specs.Steps.{to_field, to_base, to_elem, load, init, store, advance, activate, release, settle, cut, outer, dynamic_class};
+ghost use Rattle.cx_state.specs.Steps.{to_field, to_base, to_elem, load, Write, write, release, settle, cut, outer, dynamic_class};
 ghost use Rattle.cx_state.specs.Pointers.{add};
 ghost use Rattle.cx_state.specs.Counts.{Request, make, next_place};
 ghost use Rattle.cx_state.specs.Forms.{MayHold, Fit, Knows, KnowsIn};
 
-use crate::kind::{Birth, Phase, Scalar};
+use crate::kind::{Birth, Scalar};
 
 /// A place that is known stays known whatever step is done, save that cutting objects off keeps the places in those
 /// that stay.
 pub fn known_places_stay()
     ensures put { (t : Tables) (os : Objects) (f : Tree → Tree) (p q : Path) → Knows t os q → Knows t (put f os p) q }
-    ensures init { (t : Tables) (os now : Objects) (p q : Path) (v : Scalar Path) → init t os p v ≡ Ok now → Knows t os q → Knows t now q }
-    ensures store { (t : Tables) (os now : Objects) (p q : Path) (v : Scalar Path) → store t os p v ≡ Ok now → Knows t os q → Knows t now q }
-    ensures advance { (t : Tables) (os now : Objects) (p q : Path) (to : Phase) → advance t os p to ≡ Ok now → Knows t os q → Knows t now q }
-    ensures activate { (t : Tables) (os now : Objects) (p q : Path) (m : ℕ) (alive : Bool) → activate t os p m alive ≡ Ok now → Knows t os q → Knows t now q }
+    ensures write { (t : Tables) (os now : Objects) (p q : Path) (w : Write) → write t os p w ≡ Ok now → Knows t os q → Knows t now q }
     ensures release { (t : Tables) (os now : Objects) (p q : Path) → release os p ≡ Ok now → Knows t os q → Knows t now q }
     ensures settle { (t : Tables) (os : Objects) (p q : Path) (b : Birth) → Knows t os q → Knows t (settle os p b) q }
     ensures make { (t : Tables) (limits : Limits) (os now : Objects) (made : Request) (q : Path) → make t limits os made ≡ Ok now → Knows t os q → Knows t now q }

@@ -1,6 +1,6 @@
 //! What a change at a path does there and at other paths ([intro.object]).
 
-ghost use Rattle.std.specs.Prelude.{◌≡◌, ◌⊎◌, ℕ, Bool, false, List, ◌++◌, length, Option, Some, option_map, option_and_then, slice_get, Decides};
+ghost use Rattle.std.specs.Prelude.{◌≡◌, ◌⊎◌, ℕ, Bool, false, List, ◌++◌, length, Some, option_map, option_and_then, slice_get, Decides};
 ghost use Rattle.cx_state.specs.Objects.{Path, Tree, Object, Objects, below, changed, at, put, same_step, same_steps, same_path};
 ghost use Rattle.cx_state.specs.Elsewhere.{is_front, is_aside, IsAside, within};
 

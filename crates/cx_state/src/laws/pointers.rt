@@ -1,6 +1,6 @@
 //! Moving and comparing pointers ([expr.add], [expr.rel], [expr.eq]).
 
-ghost use Rattle.std.specs.Prelude.{◌≡◌, Bool, true, false, Ok, ℤ, pos, ◌+ℤ◌, int_lt};
+ghost use Rattle.std.specs.Prelude.{◌≡◌, true, false, Ok, ℤ, pos, ◌+ℤ◌, int_lt};
 ghost use Rattle.cx_type_defs.specs.Tables.{Tables};
 ghost use Rattle.cx_state.specs.Objects.{Path, Objects};
 ghost use Rattle.cx_state.specs.Pointers.{is_dangling, add, same_array, distance, less, equal};

@@ -1,14 +1,12 @@
 //! What was written is read, and nothing that is read or asked outside of the place is changed ([basic.life], [expr.ass]).
 
-ghost use Rattle.std.specs.Prelude.{◌≡◌, ℕ, Bool, true, false, Some, Ok};
+ghost use Rattle.std.specs.Prelude.{◌≡◌, true, false, Some, Ok};
 ghost use Rattle.cx_type_defs.specs.Tables.{Tables};
 ghost use Rattle.cx_state.specs.declared.kind.Scalar.{Scalar};
 ghost use Rattle.cx_state.specs.Objects.{Path, Tree, Leaf, Objects, at, put};
 ghost use Rattle.cx_state.specs.Conditions.{Access, is_indeterminate, broken};
-ghost use Rattle.cx_state.specs.Steps.{init, store, advance, activate, load, active, dynamic_class};
+ghost use Rattle.cx_state.specs.Steps.{Write, write, init, store, load, active, dynamic_class};
 ghost use Rattle.cx_state.specs.Elsewhere.{is_outside};
-
-use crate::kind::Phase;
 
 /// What was stored is read; after an initialization nothing else is.
 pub fn written_is_read()
@@ -28,8 +26,5 @@ pub fn answers_outside_stay()
 
 /// So each step that writes leaves the rules outside of its place as they are.
 pub fn rules_outside_stay()
-    ensures init { (t : Tables) (os : Objects) (p : Path) (new : Objects) (q : Path) → is_outside p q ≡ true → (access : Access) (v : Scalar Path) → init t os p v ≡ Ok new → broken t new q access ≡ broken t os q access }
-    ensures store { (t : Tables) (os : Objects) (p : Path) (new : Objects) (q : Path) → is_outside p q ≡ true → (access : Access) (v : Scalar Path) → store t os p v ≡ Ok new → broken t new q access ≡ broken t os q access }
-    ensures advance { (t : Tables) (os : Objects) (p : Path) (new : Objects) (q : Path) → is_outside p q ≡ true → (access : Access) (to : Phase) → advance t os p to ≡ Ok new → broken t new q access ≡ broken t os q access }
-    ensures activate { (t : Tables) (os : Objects) (p : Path) (new : Objects) (q : Path) → is_outside p q ≡ true → (access : Access) (m : ℕ) (alive : Bool) → activate t os p m alive ≡ Ok new → broken t new q access ≡ broken t os q access }
+    ensures { (t : Tables) (os : Objects) (p : Path) (new : Objects) (q : Path) → is_outside p q ≡ true → (access : Access) (w : Write) → write t os p w ≡ Ok new → broken t new q access ≡ broken t os q access }
 {}

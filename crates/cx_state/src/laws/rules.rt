@@ -1,6 +1,6 @@
 //! Which rule is told where an access breaks several ([expr.const]).
 
-ghost use Rattle.std.specs.Prelude.{◌≡◌, Bool, true, false, List, Option, Some, None, All, slice_get};
+ghost use Rattle.std.specs.Prelude.{◌≡◌, Bool, true, false, List, Some, None, All, slice_get};
 ghost use Rattle.std.specs.List.{list_any};
 ghost use Rattle.cx_base.specs.declared.rule.Rule.TheVariants as rule;
 ghost use Rattle.cx_type_defs.specs.Tables.{Tables};

@@ -1,6 +1,6 @@
 //! The types of places: steps leave them, and tell them of the places that they give ([basic.types], [basic.compound]).
 
-ghost use Rattle.std.specs.Prelude.{◌≡◌, ℕ, ◌<◌, ◌≤◌, Bool, true, Option, Some, is_some, Ok, slice_get, ℤ};
+ghost use Rattle.std.specs.Prelude.{◌≡◌, ℕ, ◌<◌, ◌≤◌, true, Option, Some, is_some, Ok, slice_get, ℤ};
 ghost use Rattle.cx_base.specs.declared.limits.Limits.{Limits};
 ghost use Rattle.cx_type_defs.specs.declared.ids.TypeId.{TypeId};
 ghost use Rattle.cx_type_defs.specs.declared.ids.ClassId.{ClassId};
@@ -11,20 +11,17 @@ ghost use Rattle.cx_type_defs.specs.Tables.{Tables, base_of, field_of};
 ghost use Rattle.cx_state.specs.Objects.{Path, Objects};
 ghost use Rattle.cx_state.specs.Places.{element, base_row, row_of};
 ghost use Rattle.cx_state.specs.Conditions.{class_at};
-ghost use Rattle.cx_state.specs.Steps.{to_field, to_base, to_elem, init, store, advance, activate, release, settle, cut, outer, dynamic_class};
+ghost use Rattle.cx_state.specs.Steps.{to_field, to_base, to_elem, Write, write, release, settle, cut, outer, dynamic_class};
 ghost use Rattle.cx_state.specs.Pointers.{add};
 ghost use Rattle.cx_state.specs.Counts.{Request, make};
 ghost use Rattle.cx_state.specs.Forms.{Knows};
 
-use crate::kind::{Birth, Phase, Scalar};
+use crate::kind::Birth;
 
 /// Each place keeps its type whatever step is done, a known one also where an object is made, and one in an object that
 /// stays where others are cut off.
 pub fn types_of_places_stay()
-    ensures init { (t : Tables) (os now : Objects) (p q : Path) (v : Scalar Path) → init t os p v ≡ Ok now → row_of t now q ≡ row_of t os q }
-    ensures store { (t : Tables) (os now : Objects) (p q : Path) (v : Scalar Path) → store t os p v ≡ Ok now → row_of t now q ≡ row_of t os q }
-    ensures advance { (t : Tables) (os now : Objects) (p q : Path) (to : Phase) → advance t os p to ≡ Ok now → row_of t now q ≡ row_of t os q }
-    ensures activate { (t : Tables) (os now : Objects) (p q : Path) (m : ℕ) (alive : Bool) → activate t os p m alive ≡ Ok now → row_of t now q ≡ row_of t os q }
+    ensures write { (t : Tables) (os now : Objects) (p q : Path) (w : Write) → write t os p w ≡ Ok now → row_of t now q ≡ row_of t os q }
     ensures release { (t : Tables) (os now : Objects) (p q : Path) → release os p ≡ Ok now → row_of t now q ≡ row_of t os q }
     ensures settle { (t : Tables) (os : Objects) (p q : Path) (b : Birth) → row_of t (settle os p b) q ≡ row_of t os q }
     ensures make { (t : Tables) (limits : Limits) (os now : Objects) (made : Request) (q : Path) → make t limits os made ≡ Ok now → Knows t os q → row_of t now q ≡ row_of t os q }

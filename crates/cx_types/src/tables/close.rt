@@ -2,6 +2,7 @@ ghost use Rattle.std.specs.Prelude.{◌≡◌, ℕ, ◌+◌, ◌^◌, ◌<◌, �
 ghost use Rattle.std.specs.List.{list_any};
 ghost use Rattle.cx_type_defs.specs.Tables.{Tables, with_body, body_at};
 ghost use Rattle.cx_type_defs.specs.Questions.{OfType, OfClass, asked, extent_of, is_complete};
+ghost use Rattle.cx_type_defs.specs.Bodies.{IsFit, FitsClass};
 ghost use Rattle.cx_type_defs.specs.Refusals.{class_refusal, Refuses, IsKnownBody, IsIncomplete};
 ghost use Rattle.cx_type_defs.specs.Slots.{base_slots};
 ghost use Rattle.cx_types.specs.Parts.{PartTold, PartsTold, GatheredVec, part_of_field, BodyTold, BodyMeasured, IsOpenClass};
@@ -12,6 +13,9 @@ use crate::tables::Types;
 use crate::vectors::complete_at;
 use cx_base::Memory;
 use cx_type_defs::{ClassBody, ClassId, ClassKey, Extent, Field, TypeAnswer, TypeId};
+
+/// The slots of a class are numbered from 0 within 32 bits.
+const MOST_SLOTS: usize = 0xffff_ffff;
 
 impl Types {
     /// The measure of a complete type.
@@ -128,6 +132,7 @@ impl Types {
         requires told { BodyTold self.old key body measure }
         requires slots { base_slots self.old body ≤ length body.slots }
         requires few { length body.slots < 2 ^ 32 }
+        requires fits { IsFit self.old key body }
         ensures ok { OnOk result (self.new ≡ with_body self.old class body) }
         ensures err { OnErr result (self.new ≡ self.old) }
     {
@@ -137,20 +142,25 @@ impl Types {
         Ok(())
     }
 
-    /// The class is complete. It asks that it wasn't complete before, that what the body names is known, and that it
-    /// has at least as many slots as its bases have together, and fewer than 2^32. After a refusal the class stays
-    /// incomplete. A call takes time linear in the number of bases, members and functions declared pure.
+    /// The class is complete. It asks that it wasn't complete before, that what the body names is known, that it has at
+    /// least as many slots as its bases have together, that a union has no bases, and that a class with slots, a
+    /// virtual destructor or a base with virtual functions says that it has virtual functions. After a refusal, as
+    /// that of 2^32 slots or more for want of memory, the class stays incomplete. A call takes time linear in the
+    /// number of bases, members and functions declared pure.
     pub fn class_end(&mut self, class: ClassId, body: ClassBody) -> Result<(), TypeAnswer>
         requires incomplete { IsIncomplete (slice_get self.old.classes class.0) }
         requires known { IsKnownBody self.old body }
         requires slots { base_slots self.old body ≤ length body.slots }
-        requires few { length body.slots < 2 ^ 32 }
+        requires fits { FitsClass self.old (slice_get self.old.classes class.0) body }
         ensures taken { OnOk result (class_refusal self.old class body ≡ None) }
         ensures refused { IfErr result (λ e. Refuses (class_refusal self.old class body) e) }
         ensures ok { OnOk result (self.new ≡ with_body self.old class body) }
         ensures err { OnErr result (self.new ≡ self.old) }
     {
         let key = self.key(class);
+        if body.slots.len() > MOST_SLOTS {
+            return Err(TypeAnswer::Memory);
+        }
         match self.body_measure(key, &body) {
             Ok(measure) => match self.complete_class(class, key, body, measure) {
                 Ok(()) => Ok(()),

@@ -1,5 +1,6 @@
 ghost use Rattle.std.specs.Prelude.{◌≡◌, ℕ, ◌+◌, ◌-◌, ◌^◌, ◌<◌, ◌≤◌, ◌⊎◌, [], ◌∷◌, ◌++◌, length, slice_get, true, Option, Some, None, IfOk, IfErr, OnOk, OnErr};
 ghost use Rattle.cx_type_defs.specs.Tables.{Tables, with_row, IsKnown};
+ghost use Rattle.cx_type_defs.specs.Same.{is_normal};
 ghost use Rattle.cx_type_defs.specs.Refusals.{kind_refusal, Refuses};
 ghost use Rattle.cx_types.specs.Kept.{IsAddressDepth, RowFound, KeptRow, IsPlainAt};
 
@@ -139,10 +140,12 @@ impl Types {
     }
 
     /// The number of this type; equal types have equal numbers. It asks that what the type names is known, that an
-    /// array has an element, and that fewer than 2^32 - 1 types were interned before. After a refusal the tables are
-    /// as before. A call takes one look-up by hash.
+    /// array has an element, that the type is written in the one way (const of an array stands at its elements, a
+    /// reference is never const, nothing leads to a reference, nor a reference to void), and that fewer than 2^32 - 1
+    /// types were interned before. After a refusal the tables are as before. A call takes one look-up by hash.
     pub fn intern(&mut self, row: TypeRow) -> Result<TypeId, TypeAnswer>
         requires known { IsKnown self.old row.kind }
+        requires normal { is_normal self.old row ≡ true }
         requires room { length self.old.rows < 2 ^ 32 - 1 }
         ensures taken { OnOk result (kind_refusal self.old row.kind ≡ None) }
         ensures refused { IfErr result (λ e. Refuses (kind_refusal self.old row.kind) e) }

@@ -1,83 +1,97 @@
-//! What the calls ask for, as tests that the crate's own tests make.
-ghost use Rattle.std.specs.Prelude.{◌≡◌, ◌-◌, ◌^◌, ◌<◌, ◌≤ℤ◌, true, length, slice_get, IsSome};
-ghost use Rattle.cx_type_defs.specs.Tables.{IsKnown, under_at};
-ghost use Rattle.cx_type_defs.specs.Enums.{MayEnd, IsUnder, Holds, type_values};
-ghost use Rattle.cx_type_defs.specs.Refusals.{IsIncomplete};
+ghost use Rattle.std.specs.Prelude.{◌≡◌, ◌<◌, ◌↔◌, length, slice_get, IsTrue};
+ghost use Rattle.std.specs.List.{list_any};
+ghost use Rattle.cx_type_defs.specs.Tables.{IsKnown, body_at};
+ghost use Rattle.cx_type_defs.specs.Bodies.{body_has_virtual, needs_virtual};
+ghost use Rattle.cx_type_defs.specs.Same.{may_be_pointed_to, may_be_referred_to, row_passes, is_normal};
 
 use crate::tables::Types;
-use cx_base::IntType;
-use cx_type_defs::{ClassId, EnumId, TypeId, TypeKind, type_values};
+use cx_type_defs::{ClassBody, ClassId, EnumId, TypeId, TypeKind, TypeRow};
 
 impl Types {
-    pub(crate) fn has_row(&self, id: TypeId) -> bool
-        ensures { result ≡ true → id.0 < length self.now.rows }
+    /// Whether the number is that of a type.
+    pub fn has_type(&self, id: TypeId) -> bool
+        ensures { IsTrue result ↔ (id.0 < length self.now.rows) }
     {
         (id.0 as usize) < self.rows.len()
     }
 
-    pub(crate) fn knows(&self, kind: TypeKind) -> bool
-        ensures { result ≡ true → IsKnown self.now kind }
-    {
-        match kind {
-            TypeKind::Void | TypeKind::Nullptr | TypeKind::Int(_) => true,
-            TypeKind::Enum(id) => (id.0 as usize) < self.enums.len(),
-            TypeKind::Pointer(to) => self.has_row(to),
-            TypeKind::Reference(to) => self.has_row(to),
-            TypeKind::Array(of, n) => n >= 1 && self.has_row(of),
-            TypeKind::Class(class) => (class.0 as usize) < self.classes.len(),
-        }
-    }
-
-    pub(crate) fn has_room(&self) -> bool
-        ensures rows { result ≡ true → length self.now.rows < 2 ^ 32 - 1 }
-        ensures classes { result ≡ true → length self.now.classes < 2 ^ 32 - 1 }
-        ensures enums { result ≡ true → length self.now.enums < 2 ^ 32 - 1 }
-    {
-        self.rows.len() < 1000 && self.classes.len() < 1000 && self.enums.len() < 1000
-    }
-
-    pub(crate) fn is_open(&self, class: ClassId) -> bool
-        ensures { result ≡ true → IsIncomplete (slice_get self.now.classes class.0) }
-    {
-        (class.0 as usize) < self.classes.len() && self.class(class).body.is_none()
-    }
-
-    pub(crate) fn has_class(&self, class: ClassId) -> bool
-        ensures { result ≡ true → class.0 < length self.now.classes }
+    /// Whether the number is that of a class.
+    pub fn has_class(&self, class: ClassId) -> bool
+        ensures { IsTrue result ↔ (class.0 < length self.now.classes) }
     {
         (class.0 as usize) < self.classes.len()
     }
 
-    pub(crate) fn may_end(&self, id: EnumId, under: IntType, low: i128, high: i128) -> bool
-        ensures { result ≡ true → MayEnd (slice_get self.now.enums id.0) under low high }
+    /// Whether the number is that of an enumeration.
+    pub fn has_enum(&self, id: EnumId) -> bool
+        ensures { IsTrue result ↔ (id.0 < length self.now.enums) }
     {
-        if (id.0 as usize) >= self.enums.len() {
-            return false;
+        (id.0 as usize) < self.enums.len()
+    }
+
+    /// Whether what a type of this kind names is known, and an array has an element.
+    pub fn knows(&self, kind: TypeKind) -> bool
+        ensures { IsTrue result ↔ IsKnown self.now kind }
+    {
+        match kind {
+            TypeKind::Void | TypeKind::Nullptr | TypeKind::Int(_) => true,
+            TypeKind::Enum(id) => self.has_enum(id),
+            TypeKind::Pointer(to) => self.has_type(to),
+            TypeKind::Reference(to) => self.has_type(to),
+            TypeKind::Array(of, n) => n >= 1 && self.has_type(of),
+            TypeKind::Class(class) => self.has_class(class),
         }
-        let decl = self.enumeration(id);
-        decl.end.is_none() && may_be_under(decl.fixed, under) && spans(under, low, high)
     }
 
-    pub(crate) fn has_under(&self, id: EnumId) -> bool
-        ensures { result ≡ true → IsSome (under_at self.now id) }
+    fn is_pointee(&self, to: TypeId) -> bool
+        ensures { result ≡ row_passes may_be_pointed_to (slice_get self.now.rows to.0) }
     {
-        (id.0 as usize) < self.enums.len() && self.under(id).is_some()
+        self.has_type(to) && !matches!(self.row(to).kind, TypeKind::Reference(_))
     }
-}
 
-fn may_be_under(fixed: Option<IntType>, under: IntType) -> bool
-    ensures { result ≡ true → IsUnder fixed under }
-{
-    match fixed {
-        Some(fixed) => fixed == under,
-        None => true,
+    fn is_referent(&self, to: TypeId) -> bool
+        ensures { result ≡ row_passes may_be_referred_to (slice_get self.now.rows to.0) }
+    {
+        self.has_type(to) && !matches!(self.row(to).kind, TypeKind::Void | TypeKind::Reference(_))
     }
-}
 
-fn spans(under: IntType, low: i128, high: i128) -> bool
-    ensures order { result ≡ true → low ≤ℤ high }
-    ensures holds { result ≡ true → Holds (type_values under) low high }
-{
-    let values = type_values(under);
-    low <= high && values.0 <= low && high <= values.1
+    /// Whether the type is written in the one way: const of an array stands at its elements, a reference is never
+    /// const, nothing leads to a reference, nor a reference to void ([dcl.array], [dcl.ref]).
+    pub fn is_normal(&self, row: TypeRow) -> bool
+        ensures { result ≡ is_normal self.now row }
+    {
+        match row.kind {
+            TypeKind::Pointer(to) => self.is_pointee(to),
+            TypeKind::Reference(to) => !row.konst && self.is_referent(to),
+            TypeKind::Array(_, _) => !row.konst,
+            TypeKind::Void | TypeKind::Nullptr | TypeKind::Int(_) => true,
+            TypeKind::Enum(_) | TypeKind::Class(_) => true,
+        }
+    }
+
+    fn has_virtual(&self, class: ClassId) -> bool
+        ensures { result ≡ body_has_virtual (body_at self.now class) }
+    {
+        match self.classes.get(class.0 as usize) {
+            Some(decl) => match &decl.body {
+                Some(body) => body.flags.has_virtual,
+                None => false,
+            },
+            None => false,
+        }
+    }
+
+    /// Whether a class with this body has virtual functions, as its slots, its destructor or one of its bases tell
+    /// ([class.virtual]).
+    pub fn needs_virtual(&self, body: &ClassBody) -> bool
+        ensures { result ≡ needs_virtual self.now body.now }
+    {
+        body.slots.len() > 0 || body.flags.virtual_dtor || self.any_virtual(body.bases.as_slice())
+    }
+
+    fn any_virtual(&self, bases: &[ClassId]) -> bool
+        ensures { result ≡ list_any (λ c. body_has_virtual (body_at self.now c)) bases.now }
+    {
+        bases.iter().any(|base| self.has_virtual(*base))
+    }
 }

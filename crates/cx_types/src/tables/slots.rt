@@ -6,8 +6,7 @@ use crate::tables::Types;
 use cx_type_defs::{ClassDecl, ClassId};
 
 impl Types {
-    /// How many slots a class has; none while it is incomplete.
-    pub(crate) fn slot_count(&self, class: ClassId) -> usize
+    fn slot_count(&self, class: ClassId) -> usize
         ensures { result ≡ slot_count self.now class }
     {
         match self.classes.get(class.0 as usize) {
@@ -15,6 +14,17 @@ impl Types {
                 Some(body) => body.slots.len(),
                 None => 0,
             },
+            None => 0,
+        }
+    }
+
+    /// How many slots a class has ([class.virtual]); none while it is incomplete.
+    pub fn slots(&self, class: ClassId) -> u32
+        requires { class.0 < length self.now.classes }
+        ensures { result ≡ slot_count self.now class }
+    {
+        match &self.slotted(class).body {
+            Some(body) => body.slots.len() as u32,
             None => 0,
         }
     }

@@ -1,6 +1,7 @@
 use Rattle.std.proofs.Common.{ap, sym, ◌∙◌}
 use Rattle.cx_state.specs.declared.kind.Scalar.TheVariants as scalar
-use Rattle.use_store.proofs.Elements.{scalar_element, takes_element, still_array, still_then, init_length}
+use Rattle.use_store.proofs.Elements.{scalar_element, takes_element, still_array, init_length}
+use Rattle.cx_state_kept.proofs.Keeping.{then_keeps}
 use Rattle.use_store.proofs.fill.Goals as goal
 
 pub init-requires-clause-scalar : goal.init-requires-clause-scalar
@@ -19,4 +20,4 @@ pub loop-next-preserved : goal.loop-next-preserved
 loop-next-preserved g c =
     let i = c.loop-next.invariant in
     let e = c.in_ok-init.ensures in
-    (e.fit, e.paths ∙ i.1, still_then _ _ _ i.2 e.knows, init_length c.args.types.now _ _ (g.S.Store.path c.loop-next.store c.in_ok-element.element) (scalar.Int c.args.value) _ e.changed ∙ i.3)
+    (e.fit, e.paths ∙ i.1, then_keeps _ _ _ i.2 e.knows, init_length c.args.types.now _ _ (g.S.Store.path c.loop-next.store c.in_ok-element.element) (scalar.Int c.args.value) _ e.changed ∙ i.3)

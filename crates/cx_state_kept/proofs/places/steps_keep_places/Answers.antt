@@ -1,4 +1,4 @@
-use Rattle.cx_state_kept.proofs.Keeping.{put_keeps, make_keeps, init_keeps, store_keeps, advance_keeps, activate_keeps, release_keeps, settle_keeps, cut_keeps}
+use Rattle.cx_state_kept.proofs.Keeping.{put_keeps, make_keeps, write_keeps, release_keeps, settle_keeps, cut_keeps}
 use Rattle.cx_state_kept.proofs.places.steps_keep_places.Goals as goal
 
 pub returns-clause-put : goal.returns-clause-put
@@ -6,18 +6,6 @@ returns-clause-put c = put_keeps
 
 pub returns-clause-make : goal.returns-clause-make
 returns-clause-make c = make_keeps
-
-pub returns-clause-init : goal.returns-clause-init
-returns-clause-init c = init_keeps
-
-pub returns-clause-store : goal.returns-clause-store
-returns-clause-store c = store_keeps
-
-pub returns-clause-advance : goal.returns-clause-advance
-returns-clause-advance c = advance_keeps
-
-pub returns-clause-activate : goal.returns-clause-activate
-returns-clause-activate c = activate_keeps
 
 pub returns-clause-release : goal.returns-clause-release
 returns-clause-release c = release_keeps
@@ -27,3 +15,6 @@ returns-clause-settle c = settle_keeps
 
 pub returns-clause-cut : goal.returns-clause-cut
 returns-clause-cut c = cut_keeps
+
+pub returns-clause-write : goal.returns-clause-write
+returns-clause-write c = write_keeps

@@ -1,4 +1,3 @@
-use Rattle.std.proofs.Common.{◌≡◌, ◌<◌, Some, refl, sym, ap, ◌∙◌, arith}
 use Rattle.cx_store_cases.proofs.Made.{holds-none}
 use Rattle.cx_store_cases.proofs.make.clear.Goals as goal
 

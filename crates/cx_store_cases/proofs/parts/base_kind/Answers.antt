@@ -1,4 +1,3 @@
-use Rattle.std.proofs.Common.{Some, refl, sym, ap, ◌∙◌, arith}
 use Rattle.cx_store_cases.proofs.Seats.{base-part}
 use Rattle.cx_store_cases.proofs.parts.base_kind.Goals as goal
 

@@ -1,4 +1,3 @@
-use Rattle.std.proofs.Common.{Some, refl, sym, ap, ◌∙◌, arith}
 use Rattle.cx_type_defs.specs.declared.kind.TypeKind.TheVariants as kind
 use Rattle.cx_store_cases.proofs.Seats.{class-seat, told-as}
 use Rattle.cx_store_cases.proofs.parts.class_of.Goals as goal

@@ -1,4 +1,4 @@
-use Rattle.std.proofs.Common.{Some, refl, sym, ap, ◌∙◌, arith}
+use Rattle.std.proofs.Common.{arith}
 use Rattle.cx_type_defs.specs.declared.kind.TypeKind.TheVariants as kind
 use Rattle.cx_store_cases.proofs.Seats.{element-known, elems, told-as}
 use Rattle.cx_store_cases.proofs.parts.elem_kind.Goals as goal

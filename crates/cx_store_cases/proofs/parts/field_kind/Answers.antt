@@ -1,4 +1,3 @@
-use Rattle.std.proofs.Common.{Some, refl, sym, ap, ◌∙◌, arith}
 use Rattle.cx_store_cases.proofs.Seats.{member-known, field-part}
 use Rattle.cx_store_cases.proofs.parts.field_kind.Goals as goal
 

@@ -24,6 +24,17 @@ returns-in-Some-clause-made c =
     let q = says.request c.args.ty c.args.count c.args.kind c.args.konst c.args.birth in
     (make_err t c.args.limits.now (objects_of rs) q c.in-Some.rule (sym (limit_is t c.args.limits.now rs c.args.self.now.live q c.counts.result c.cells_of.result c.requires.fits c.counts.ensures c.cells_of.ensures) ∙ sym c.limit_rule.ensures.gives ∙ c.in-Some.is), refl)
 
+-- why nothing is made: a limit isn't it
+pub returns-in-Err-clause-made : goal.returns-in-Err-clause-made
+returns-in-Err-clause-made c =
+    let q = says.request c.args.ty c.args.count c.args.kind c.args.konst c.args.birth in
+    (sym (limit_is c.args.types.now c.args.limits.now c.args.self.now.records.items c.args.self.now.live q c.counts.result c.cells_of.result c.requires.fits c.counts.ensures c.cells_of.ensures) ∙ sym c.limit_rule.ensures.gives ∙ c.in-None.is, refl)
+
+pub returns-in-Err-add_record-clause-made : goal.returns-in-Err-add_record-clause-made
+returns-in-Err-add_record-clause-made c =
+    let q = says.request c.args.ty c.args.count c.args.kind c.args.konst c.args.birth in
+    (sym (limit_is c.args.types.now c.args.limits.now c.args.self.now.records.items c.args.self.now.live q c.counts.result c.cells_of.result c.requires.fits c.counts.ensures c.cells_of.ensures) ∙ sym c.limit_rule.ensures.gives ∙ c.in-None.is, ap objects_of c.in-Err-add_record.ensures.err.0)
+
 pub returns-in-Ok-add_record-clause-made : goal.returns-in-Ok-add_record-clause-made
 returns-in-Ok-add_record-clause-made c =
     let t = c.args.types.now in

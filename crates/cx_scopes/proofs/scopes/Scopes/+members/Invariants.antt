@@ -6,4 +6,4 @@ abbrev pub decreases-members : goal.decreases-members
 decreases-members l = l.levels
 
 abbrev pub invariant-loop-base : goal.invariant-loop-base
-invariant-loop-base l = said_together (λ b. members l.self (l.levels - 1) b l.name) (take l.base-index l.base-items) ≡ Some l.sum
+invariant-loop-base l = said_together (λ b. members l.self l.sought (l.levels - 1) b l.name) (take l.base-index l.base-items) ≡ Some l.sum

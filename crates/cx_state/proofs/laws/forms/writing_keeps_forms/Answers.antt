@@ -1,8 +1,5 @@
-use Rattle.cx_state.proofs.Written.{Fit-init, Fit-store}
+use Rattle.cx_state.proofs.Stepped.{Fit-write_of}
 use Rattle.cx_state.proofs.laws.forms.writing_keeps_forms.Goals as goal
 
-pub returns-clause-init : goal.returns-clause-init
-returns-clause-init c = Fit-init
-
-pub returns-clause-store : goal.returns-clause-store
-returns-clause-store c = Fit-store
+pub returns : goal.returns
+returns c = Fit-write_of

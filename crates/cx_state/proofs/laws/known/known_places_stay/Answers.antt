@@ -1,20 +1,11 @@
-use Rattle.cx_state.proofs.Known.{put-knows, init-knows, store-knows, advance-knows, activate-knows, release-knows, settle-knows, make-knows, cut-knows}
+use Rattle.cx_state.proofs.Known.{put-knows, write-knows, release-knows, settle-knows, make-knows, cut-knows}
 use Rattle.cx_state.proofs.laws.known.known_places_stay.Goals as goal
+
+pub returns-clause-write : goal.returns-clause-write
+returns-clause-write c = write-knows
 
 pub returns-clause-put : goal.returns-clause-put
 returns-clause-put c = put-knows
-
-pub returns-clause-init : goal.returns-clause-init
-returns-clause-init c = init-knows
-
-pub returns-clause-store : goal.returns-clause-store
-returns-clause-store c = store-knows
-
-pub returns-clause-advance : goal.returns-clause-advance
-returns-clause-advance c = advance-knows
-
-pub returns-clause-activate : goal.returns-clause-activate
-returns-clause-activate c = activate-knows
 
 pub returns-clause-release : goal.returns-clause-release
 returns-clause-release c = release-knows

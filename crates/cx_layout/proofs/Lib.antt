@@ -1,0 +1,24 @@
+pub mod Options
+pub mod Fitting
+pub mod Parts
+pub mod WaysBack
+pub mod Telling
+pub mod Laying
+pub mod Filling
+pub mod Forming
+pub mod Calling
+pub mod Measures
+pub mod Complete
+pub mod Growing
+pub mod Wholes
+pub mod Placing
+pub mod Stepping
+pub mod Walking
+pub mod Enclosing
+pub mod Writing
+pub mod Pasts
+pub mod Pathing
+pub mod Following
+pub mod Shapes
+pub mod Agreeing
+mod Examples

@@ -1,4 +1,0 @@
-use Rattle.cx_objects_cases.proofs.tests.tried.Goals as goal
-
-pub run-requires : goal.run-requires
-run-requires c = c.in-Ok.ensures.fit c.in_ok-types.types.types

@@ -1,6 +1,0 @@
-use Rattle.std.proofs.Common.{Some, refl, sym, ap, ◌∙◌}
-use Rattle.cx_store_cases.proofs.Taking.{takes-place}
-use Rattle.cx_store_cases.proofs.value.place_for.Goals as goal
-
-pub returns-then-may_lead : goal.returns-then-may_lead
-returns-then-may_lead g c = takes-place c.args.types.now (g.S.Store.objects c.args.store.now) (g.S.Store.path c.args.store.now) c.args.at c.args.value c.in_ok-to.to c.in_ok-found.found c.requires.seat c.requires.value c.in_ok-to.ensures c.in_ok-found.ensures (c.may_lead.ensures c.if-may_lead.true)

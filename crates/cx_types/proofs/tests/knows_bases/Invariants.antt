@@ -1,7 +1,0 @@
-use Rattle.std.proofs.Common.{◌<◌, take, length}
-use Rattle.cx_type_defs.specs.declared.ids.ClassId.{ClassId}
-use Rattle.cx_types.proofs.Testing.{AllAt}
-use Rattle.cx_types.proofs.tests.knows_bases.Given as goal
-
-abbrev pub invariant-loop-base : goal.invariant-loop-base
-invariant-loop-base l = AllAt (λ (c : ClassId). c.0 < length l.types.classes) (take l.base-index l.bases)

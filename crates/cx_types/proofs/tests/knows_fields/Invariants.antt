@@ -1,7 +1,0 @@
-use Rattle.std.proofs.Common.{◌<◌, take, length}
-use Rattle.cx_type_defs.specs.declared.decl.Field.{Field}
-use Rattle.cx_types.proofs.Testing.{AllAt}
-use Rattle.cx_types.proofs.tests.knows_fields.Given as goal
-
-abbrev pub invariant-loop-field : goal.invariant-loop-field
-invariant-loop-field l = AllAt (λ (f : Field). f.ty.0 < length l.types.rows) (take l.field-index l.fields)

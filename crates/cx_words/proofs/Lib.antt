@@ -1,0 +1,3 @@
+mod Cases
+pub mod Numbers
+pub mod Parsed
