@@ -58,10 +58,10 @@ no_bases key.Struct xs h = refl
 
 module _ (t : Tables) (sound : Sound t) where
   -- a type of that kind has that form, as far as some levels tell
-  abbrev Has : TypeKind → Form → Type 0
+  abbrev pub Has : TypeKind → Form → Type 0
   Has k g = (m : ℕ) × (kind_form t (form_in t m) k ≡ Some g)
 
-  type_has : (l : ℕ) (id : TypeId) (g : Form) → form_in t l (OfType id) ≡ Some g → (r : TypeRow) × (slice_get t.rows id.0 ≡ Some r) × Has r.kind g
+  pub type_has : (l : ℕ) (id : TypeId) (g : Form) → form_in t l (OfType id) ≡ Some g → (r : TypeRow) × (slice_get t.rows id.0 ≡ Some r) × Has r.kind g
   unfolding form_in
   type_has zero id g e = absurd (cc)
   type_has (suc m) id g e = let a = and_then_some (λ (r : TypeRow). kind_form t (form_in t m) r.kind) (slice_get t.rows id.0) g e in (a.0, a.1, (m, a.2))
@@ -71,13 +71,13 @@ module _ (t : Tables) (sound : Sound t) where
   class_has zero c g e = absurd (cc)
   class_has (suc m) c g e = (m, e)
 
-  abbrev Both : Option TypeRow → Option Part → Type 0
+  abbrev pub Both : Option TypeRow → Option Part → Type 0
   Both None None = Unit {0}
   Both (Some r) (Some q) = Has r.kind q.form
   Both None (Some q) = ⊥
   Both (Some r) None = ⊥
 
-  both_by : (x y : Option TypeRow) (a b : Option Part) → x ≡ y → a ≡ b → Both y b → Both x a
+  pub both_by : (x y : Option TypeRow) (a b : Option Part) → x ≡ y → a ≡ b → Both y b → Both x a
   both_by x y a b e k h = subst (λ x. Both x a) (sym e) (subst (Both y) (sym k) h)
 
   leaf_both : (konst : Bool) (k : TypeKind) (g : Form) (s : Step) → Leaf ≡ g → kind_part t konst k s ≡ None → Both (kind_part t konst k s) (part_of g s)
@@ -163,22 +163,30 @@ module _ (t : Tables) (sound : Sound t) where
   abbrev class_end : Option Part → Option ClassId
   class_end o = option_and_then (λ (p : Part). form_class p.form) o
 
-  class_further : (n s : ℕ) (o : Option Part) → class_end (option_map (further n s) o) ≡ class_end o
-  class_further n s None = refl
-  class_further n s (Some p) = refl
+  pub both_further : (n s : ℕ) (x : Option TypeRow) (a : Option Part) → Both x a → Both x (option_map (further n s) a)
+  both_further n s None None b = b
+  both_further n s (Some r) (Some q) b = b
+  both_further n s None (Some q) b = b
+  both_further n s (Some r) None b = b
 
-  classes_below : (ss : List Step) (r : TypeRow) (g : Form) → Has r.kind g → class_at g ss ≡ option_and_then (λ (q : TypeRow). class_of q.kind) (row_below t r ss)
-  classes_below [] r g h = class_here h.0 r.kind g h.1
-  classes_below (s ∷ ss) r g h = go (row_part t r s) (part_of g s) (part_both h.0 r.konst r.kind g s h.1) (λ q f k. classes_below ss q f k)
+  pub below_both : (ss : List Step) (r : TypeRow) (g : Form) → Has r.kind g → Both (row_below t r ss) (below_of g ss)
+  below_both [] r g h = h
+  below_both (s ∷ ss) r g h = go (row_part t r s) (part_of g s) (part_both h.0 r.konst r.kind g s h.1) (λ q f k. below_both ss q f k)
     where
-      go : (x : Option TypeRow) (a : Option Part) → Both x a → ((q : TypeRow) (f : Form) → Has q.kind f → class_at f ss ≡ option_and_then (λ (q : TypeRow). class_of q.kind) (row_below t q ss)) → class_end (option_and_then (λ (p : Part). option_map (further p.node p.slot) (below_of p.form ss)) a) ≡ option_and_then (λ (q : TypeRow). class_of q.kind) (option_and_then (λ (q : TypeRow). row_below t q ss) x)
-      go None None b ih = refl
-      go (Some q) (Some p) b ih = class_further p.node p.slot (below_of p.form ss) ∙ ih q p.form b
+      go : (x : Option TypeRow) (a : Option Part) → Both x a → ((q : TypeRow) (f : Form) → Has q.kind f → Both (row_below t q ss) (below_of f ss)) → Both (option_and_then (λ (q : TypeRow). row_below t q ss) x) (option_and_then (λ (p : Part). option_map (further p.node p.slot) (below_of p.form ss)) a)
+      go None None b ih = tt
+      go (Some q) (Some p) b ih = both_further p.node p.slot (row_below t q ss) (below_of p.form ss) (ih q p.form b)
       go None (Some p) b ih = absurd b
       go (Some q) None b ih = absurd b
 
+  class_both_ends : (x : Option TypeRow) (a : Option Part) → Both x a → class_end a ≡ option_and_then (λ (q : TypeRow). class_of q.kind) x
+  class_both_ends None None b = refl
+  class_both_ends (Some r) (Some q) b = class_here b.0 r.kind q.form b.1
+  class_both_ends None (Some q) b = absurd b
+  class_both_ends (Some r) None b = absurd b
+
   -- the whole object
-  root_has : (o : Object) (f : Form) → object_form t o.ty o.count ≡ Some f → (r : TypeRow) × (root_row t o ≡ Some r) × Has r.kind f
+  pub root_has : (o : Object) (f : Form) → object_form t o.ty o.count ≡ Some f → (r : TypeRow) × (root_row t o ≡ Some r) × Has r.kind f
   unfolding object_form
   root_has o f e =
       let a = map_some (object_of o.count) (form_in t most_levels (OfType o.ty)) f e in
@@ -192,7 +200,7 @@ module _ (t : Tables) (sound : Sound t) where
   pub classes_are : (o : Object) (f : Form) → object_form t o.ty o.count ≡ Some f → (ss : List Step) → class_at f ss ≡ class_below t o ss
   classes_are o f e ss =
       let r = root_has o f e in
-      classes_below ss r.0 f r.2 ∙ ap (option_and_then (λ (r : TypeRow). option_and_then (λ (q : TypeRow). class_of q.kind) (row_below t r ss))) (sym r.1)
+      class_both_ends (row_below t r.0 ss) (below_of f ss) (below_both ss r.0 f r.2) ∙ ap (option_and_then (λ (r : TypeRow). option_and_then (λ (q : TypeRow). class_of q.kind) (row_below t r ss))) (sym r.1)
 
 same_test : (c : ClassId) (o : Option ClassId) → is_class c o ≡ list_any (λ (d : ClassId). d.0 == c.0) (listed o)
 same_test c None = refl

@@ -17,10 +17,13 @@ use Rattle.cx_type_defs.specs.declared.decl.ClassDecl.{ClassDecl}
 use Rattle.cx_type_defs.specs.declared.decl.Field.{Field as Member}
 use Rattle.cx_type_defs.specs.Tables.{Tables}
 use Rattle.cx_type_defs.specs.Questions.{most_levels}
+use Rattle.cx_layout.specs.declared.columns.Columns.{Columns}
+use Rattle.cx_layout.specs.declared.columns.Descriptor.{Descriptor}
 use Rattle.cx_layout.specs.declared.place.Place.{Place}
 use Rattle.cx_layout.specs.Forms.{Form, nodes, cells}
 use Rattle.cx_layout.specs.TypeForms.{form_in, object_form}
 use Rattle.cx_layout.specs.Places.{place_of, nearest}
+use Rattle.cx_layout.specs.Described.{number_in}
 
 abbrev ty : ℕ → TypeId
 ty n = record { 0 = n }
@@ -44,12 +47,12 @@ abbrev class : ClassKey → List ClassId → List Member → ClassDecl
 class k bs fs = record { name = []; key = k; body = Some (record { bases = bs; fields = fs; slots = []; pures = []; flags = flags }) }
 
 -- struct B { int seen; }; struct D : B { int t[3]; }; union V { int w; int x; }; union U { int k; V v; }; struct O { U u; };
--- struct E { }; struct F : E, B { int a[2][3]; E e; };
+-- struct E { }; struct F : E, B { int a[2][3]; E e; }; struct G : D, B { int x; }; struct H { U u; int z; };
 abbrev sample : Tables
 sample = record {
-  rows = row (kind.Int int.Int) ∷ row (kind.Array (ty 0) 3) ∷ row (kind.Class (id 1)) ∷ row (kind.Class (id 2)) ∷ row (kind.Class (id 3)) ∷ row (kind.Class (id 4)) ∷ row (kind.Array (ty 1) 2) ∷ row (kind.Class (id 5)) ∷ row (kind.Class (id 6)) ∷ [];
+  rows = row (kind.Int int.Int) ∷ row (kind.Array (ty 0) 3) ∷ row (kind.Class (id 1)) ∷ row (kind.Class (id 2)) ∷ row (kind.Class (id 3)) ∷ row (kind.Class (id 4)) ∷ row (kind.Array (ty 1) 2) ∷ row (kind.Class (id 5)) ∷ row (kind.Class (id 6)) ∷ row (kind.Class (id 7)) ∷ row (kind.Class (id 8)) ∷ [];
   classes = class key.Struct [] (member 0 ∷ []) ∷ class key.Struct (id 0 ∷ []) (member 1 ∷ []) ∷ class key.Union [] (member 0 ∷ member 0 ∷ []) ∷ class key.Union [] (member 0 ∷ member 3 ∷ []) ∷ class key.Class [] (member 4 ∷ [])
-      ∷ class key.Struct [] [] ∷ class key.Struct (id 5 ∷ id 0 ∷ []) (member 6 ∷ member 7 ∷ []) ∷ [];
+      ∷ class key.Struct [] [] ∷ class key.Struct (id 5 ∷ id 0 ∷ []) (member 6 ∷ member 7 ∷ []) ∷ class key.Struct (id 1 ∷ id 0 ∷ []) (member 0 ∷ []) ∷ class key.Struct [] (member 4 ∷ member 0 ∷ []) ∷ [];
   enums = [];
 }
 
@@ -57,8 +60,8 @@ sample = record {
 abbrev measure : TypeId → Option ℕ → Option (ℕ × ℕ)
 measure of length = option_map (λ f. (nodes f, cells f)) (object_form sample of length)
 
-measures : measure (ty 2) None ∷ measure (ty 5) None ∷ measure (ty 7) None ∷ measure (ty 8) None ∷ measure (ty 6) (Some 0) ∷ measure (ty 2) (Some 4) ∷ []
-    ≡ Some (5, 6) ∷ Some (6, 4) ∷ Some (1, 1) ∷ Some (8, 11) ∷ Some (4, 0) ∷ Some (6, 24) ∷ []
+measures : measure (ty 2) None ∷ measure (ty 5) None ∷ measure (ty 7) None ∷ measure (ty 8) None ∷ measure (ty 9) None ∷ measure (ty 10) None ∷ measure (ty 6) (Some 0) ∷ measure (ty 2) (Some 4) ∷ []
+    ≡ Some (5, 6) ∷ Some (6, 4) ∷ Some (1, 1) ∷ Some (8, 11) ∷ Some (9, 10) ∷ Some (7, 5) ∷ Some (4, 0) ∷ Some (6, 24) ∷ []
 unfolding object_form form_in most_levels
 measures = refl
 
@@ -103,6 +106,23 @@ no_elements = refl
 empty_base : map (leads (ty 8) None) ((Base 0 ∷ []) ∷ (Base 1 ∷ Field 0 ∷ []) ∷ (Field 0 ∷ Elem 1 ∷ Elem 2 ∷ []) ∷ (Field 1 ∷ []) ∷ []) ≡ Some (1, 1, false) ∷ Some (3, 3, false) ∷ Some (9, 6, false) ∷ Some (10, 7, false) ∷ []
 unfolding object_form form_in most_levels
 empty_base = refl
+
+-- the second base and the member stand behind all parts of the first base
+second_base : map (leads (ty 9) None) ((Base 0 ∷ Base 0 ∷ Field 0 ∷ []) ∷ (Base 1 ∷ []) ∷ (Base 1 ∷ Field 0 ∷ []) ∷ (Field 0 ∷ []) ∷ []) ≡ Some (3, 3, false) ∷ Some (7, 6, false) ∷ Some (8, 7, false) ∷ Some (9, 8, false) ∷ []
+unfolding object_form form_in most_levels
+second_base = refl
+
+-- a member behind a union stands behind the union's widest member
+behind_a_union : map (leads (ty 10) None) ((Field 0 ∷ []) ∷ (Field 0 ∷ Field 1 ∷ Field 0 ∷ []) ∷ (Field 1 ∷ []) ∷ []) ≡ Some (1, 1, false) ∷ Some (3, 4, false) ∷ Some (4, 6, false) ∷ []
+unfolding object_form form_in most_levels
+behind_a_union = refl
+
+-- one number for one type and length, and none for another length
+abbrev descriptor : Columns → TypeId → Option ℕ → Descriptor
+descriptor c of length = record { ty = of; length = length; columns = c }
+
+numbers : (c : Columns) → map (λ (l : Option ℕ). number_in (descriptor c (ty 0) None ∷ descriptor c (ty 2) None ∷ descriptor c (ty 2) (Some 4) ∷ []) (ty 2) l) (None ∷ Some 4 ∷ Some 0 ∷ []) ≡ Some 1 ∷ Some 2 ∷ None ∷ []
+numbers c = refl
 
 -- enclosing objects through bases: itself, the derived one, none of another class, none through a member
 abbrev enclosed : Option Form → ClassId → List Step → Option (List Step)

@@ -21,4 +21,5 @@ pub mod Pathing
 pub mod Following
 pub mod Shapes
 pub mod Agreeing
+pub mod Onward
 mod Examples

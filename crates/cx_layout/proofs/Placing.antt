@@ -27,7 +27,7 @@ abbrev pub IsListed : Step → Type 0
 IsListed (step.Elem i) = ⊥
 IsListed s = Unit {0}
 
-last_listed : (past : Bool) (f : Form) (s : Step) → IsListed s → last_of past f s ≡ part_of f s
+pub last_listed : (past : Bool) (f : Form) (s : Step) → IsListed s → last_of past f s ≡ part_of f s
 last_listed past f (step.Elem i) h = absurd h
 last_listed past Leaf (step.Base i) h = refl
 last_listed past Leaf (step.Field i) h = refl

@@ -105,6 +105,22 @@ pub of_more : (t : Tables) (ds : List Descriptor) (d : Descriptor) → AreOf t d
 of_more t [] d h g = (g, tt)
 of_more t (x ∷ ds) d h g = (h.0, of_more t ds d h.1 g)
 
+pub of_take : (t : Tables) (ds : List Descriptor) (n : ℕ) → AreOf t ds → AreOf t (take n ds)
+of_take t ds zero h = tt
+of_take t [] (suc n) h = tt
+of_take t (d ∷ ds) (suc n) h = (h.0, of_take t ds n h.1)
+
+pub form_left : (ds : List Descriptor) (n k : ℕ) → k < n → form_at (take n ds) k ≡ form_at ds k
+form_left ds zero k l = absurd (omega arith)
+form_left [] (suc n) k l = refl
+form_left (d ∷ ds) (suc n) zero l = refl
+form_left (d ∷ ds) (suc n) (suc k) l = form_left ds n k (omega arith)
+
+pub form_added : (ds es : List Descriptor) (k : ℕ) → k < length ds → form_at (ds ++ es) k ≡ form_at ds k
+form_added [] es k l = absurd (omega arith)
+form_added (d ∷ ds) es zero l = refl
+form_added (d ∷ ds) es (suc k) l = form_added ds es k (omega arith)
+
 pub form_is : (ds : List Descriptor) (n : ℕ) (d : Descriptor) → slice_get ds n ≡ Some d → form_at ds n ≡ descriptor_form d
 form_is ds n d e = ap (λ o. unwrap_or (option_map descriptor_form o) Leaf) e
 

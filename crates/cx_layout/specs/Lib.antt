@@ -1,6 +1,7 @@
 pub mod Forms
 pub mod TypeForms
 pub mod Places
+pub mod Paths
 pub mod Laid
 pub mod Described
 pub mod Laying

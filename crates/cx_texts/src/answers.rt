@@ -2,7 +2,7 @@
 
 use crate::rows::{Kind, Row, nested};
 use anyhow::{Context, Result, anyhow, bail, ensure};
-use cx_base::{Rule, standard_limits};
+use cx_base::{RULES, Rule, rule_tag, standard_limits};
 use cx_tokens::lex;
 use cx_unit::{Mode, Verdict, report, verdict_on};
 use std::alloc::Global;
@@ -74,6 +74,15 @@ fn tell_fronts<W: Write>(alloc: Global, source: &[u8], out: &mut W) -> Result<()
     Ok(())
 }
 
+// Each rule in order, with its tag in the table and the tag that `rule_tag` gives.
+fn tell_rules<W: Write>(out: &mut W) -> Result<()> {
+    let table = RULES;
+    for row in table.rows.iter() {
+        writeln!(out, "{:?} {} {}", row.rule, row.tag, rule_tag(row.rule))?;
+    }
+    Ok(())
+}
+
 /// Writes a row's name, and what is told of its unit.
 pub fn tell<W: Write>(alloc: Global, row: &Row, out: &mut W) -> Result<()> {
     if row.name.is_empty() {
@@ -83,6 +92,7 @@ pub fn tell<W: Write>(alloc: Global, row: &Row, out: &mut W) -> Result<()> {
     match row.kind {
         Kind::Tree => tell_tree(alloc, row.source(), out),
         Kind::Report => tell_report(alloc, &judged(alloc, row.source())?, out),
+        Kind::Rules => tell_rules(out),
         Kind::Fronts => tell_fronts(alloc, row.source(), out),
         Kind::Nest(times) => {
             let unit = nested(alloc, row.source(), times)?;

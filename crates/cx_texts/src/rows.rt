@@ -12,6 +12,8 @@ pub enum Kind {
     Report,
     /// A unit, each front of whose tokens is asked for its tree or first fault.
     Fronts,
+    /// No unit: the table of rules is asked for.
+    Rules,
     /// The five parts of a unit, with `@` between them. The second and the fourth stand in the unit so many times.
     Nest(u16),
 }
@@ -29,6 +31,7 @@ fn kind_of(word: &str) -> Kind {
     match word {
         "report" => Kind::Report,
         "fronts" => Kind::Fronts,
+        "rules" => Kind::Rules,
         _ => match word.parse() {
             Ok(times) => Kind::Nest(times),
             Err(_) => Kind::Tree,
