@@ -42,7 +42,7 @@ fn deciding_at(shape: &Shape, phase: Phase) -> bool
     ensures { (c : Cell) → c.phase ≡ phase → result ≡ is_deciding_class (form_of shape.now) c }
 {
     match shape {
-        Shape::Class(_, _) => matches!(phase, Phase::Body | Phase::Alive | Phase::Ending),
+        Shape::Class(..) => matches!(phase, Phase::Body | Phase::Alive | Phase::Ending),
         _ => false,
     }
 }

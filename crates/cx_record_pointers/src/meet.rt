@@ -37,7 +37,7 @@ pub fn same_step(a: Step, b: Step) -> bool
 fn is_union(shape: &Shape) -> bool
     ensures { result ≡ is_union (form_of shape.now) }
 {
-    matches!(shape, Shape::Union(_))
+    matches!(shape, Shape::Union(..))
 }
 
 /// How the parts with two numbers lie to each other.

@@ -28,7 +28,7 @@ fn ended_at(shape: &Shape, phase: Phase) -> bool
     ensures { (c : Cell) → c.phase ≡ phase → result ≡ is_ended_class (form_of shape.now) c }
 {
     match shape {
-        Shape::Class(_, _) => matches!(phase, Phase::Ended),
+        Shape::Class(..) => matches!(phase, Phase::Ended),
         _ => false,
     }
 }

@@ -57,7 +57,7 @@ fn holds_at(shape: &Shape, contents: &Contents, base: u64) -> bool
 {
     match shape {
         Shape::Leaf => has_value(contents.value(base)),
-        Shape::Class(_, _) => is_alive(contents.phase(base)),
+        Shape::Class(..) => is_alive(contents.phase(base)),
         _ => false,
     }
 }

@@ -85,7 +85,7 @@ pub fn open_at(shape: &Shape, member: Option<u32>, step: Step) -> bool
     ensures { (c : Cell) → c.member ≡ member → result ≡ is_open (form_of shape.now) c step }
 {
     match (shape, step) {
-        (Shape::Union(_), Step::Field(index)) => member == Some(index),
+        (Shape::Union(..), Step::Field(index)) => member == Some(index),
         _ => true,
     }
 }
@@ -102,7 +102,7 @@ pub fn dead_at(shape: &Shape, phase: Phase) -> bool
     ensures { (c : Cell) → c.phase ≡ phase → result ≡ is_dead_class (form_of shape.now) c }
 {
     match shape {
-        Shape::Class(_, _) => is_dead_phase(phase),
+        Shape::Class(..) => is_dead_phase(phase),
         _ => false,
     }
 }

@@ -1,5 +1,6 @@
 -- What is told of a type is told of its parts, and forms are gathered one by one.
 use Rattle.std.proofs.Common.{◌≡◌, ℕ, zero, suc, ◌+◌, ◌-◌, ◌<◌, ◌≤◌, true, List, [], ◌∷◌, ◌++◌, length, map, take, Option, None, Some, refl, sym, ap, subst, ◌∙◌, slice_get, arith}
+use Rattle.std.proofs.lemmas.List.{take_all}
 use Rattle.std.specs.Prelude.{option_map, option_and_then, is_some, IsSome}
 use Rattle.cx_type_defs.proofs.Lists.{some_inj, option_map-some, option_and_then-some, both-some, joined-some}
 use Rattle.cx_type_defs.specs.declared.ids.TypeId.{TypeId}
@@ -11,11 +12,14 @@ use Rattle.cx_type_defs.specs.declared.decl.Field.{Field}
 use Rattle.cx_type_defs.specs.declared.decl.ClassBody.{ClassBody}
 use Rattle.cx_type_defs.specs.declared.decl.ClassDecl.{ClassDecl}
 use Rattle.cx_type_defs.specs.declared.decl.ClassKey.{ClassKey}
+use Rattle.cx_type_defs.specs.declared.decl.ClassKey.TheVariants as key
+use Rattle.cx_type_defs.specs.Bodies.{IsFit}
 use Rattle.cx_type_defs.specs.Tables.{Tables, body_at, base_of, field_of}
 use Rattle.cx_type_defs.specs.Questions.{OfType, OfClass, each, body_answer, class_answer, kind_answer, looked, cells_of}
 use Rattle.cx_state.specs.Pointers.{is_union_key}
 use Rattle.cx_shapes.specs.declared.shape.Shape.{Shape}
-use Rattle.cx_shapes.specs.Forms.{Forms, Union, form_of, forms_of}
+use Rattle.cx_shapes.specs.Forms.{Forms, form_of, forms_of, told, AreListed}
+use Rattle.cx_shapes.proofs.Ends.{told_forms}
 use Rattle.cx_shapes.specs.Kinds.{OfKind, OfRow, OfBody, base_kinds, field_kind, field_kinds, IsForm, AreForms, IsTold}
 use Rattle.cx_shapes.specs.Kinds as kinds
 
@@ -112,25 +116,44 @@ fields_push t (Some b) xs i x ty h e g =
     row_kind None h = absurd h
     row_kind (Some r) h = h
 
--- a union without bases
+-- all forms, where the ends are told
 
-no_items : {A : Type 0} (xs : List A) → length xs ≡ 0 → xs ≡ []
-no_items [] e = refl
-no_items (x ∷ xs) e = absurd (omega arith)
+count_kinds : {A B : Type 0} (f : A → B) (xs : List A) → length (map f xs) ≡ length xs
+count_kinds f [] = refl
+count_kinds f (x ∷ xs) = omega (arith, count_kinds f xs)
 
-pub union_form : (t : Tables) (c : ClassId) (ms : Forms) (k : ClassKey) (n : ℕ) (o : Option ClassBody) → is_union_key k ≡ true → option_map (λ (d : ClassDecl). d.key) (slice_get t.classes c.0) ≡ Some k
-    → option_map (λ (b : ClassBody). length b.bases) (body_at t c) ≡ Some n → n ≡ 0 → OfBody (λ b. AreForms t ms (field_kinds t b)) (body_at t c) → IsForm t (Union ms) (kind.Class c)
-union_form t c ms k n o u key count z h = go (slice_get t.classes c.0) key count h
+taken : (P : List (Option TypeKind) → Type 0) (ks : ClassBody → List (Option TypeKind)) (len : ClassBody → ℕ) (n i : ℕ) (o : Option ClassBody) → ((b : ClassBody) → length (ks b) ≡ len b) → option_map len o ≡ Some n → n ≤ i
+    → OfBody (λ b. P (take i (ks b))) o → OfBody (λ b. P (ks b)) o
+taken P ks len n i None k e l h = absurd h
+taken P ks len n i (Some b) k e l h =
+    let z = some_inj (len b) n e in
+    let y = k b in
+    subst P (take_all i (ks b) (omega arith)) h
+
+pub bases_told : (t : Tables) (o : Option ClassBody) (xs : List Shape) (es : List ℕ) (p n i : ℕ) → AreListed xs es p → option_map (λ (b : ClassBody). length b.bases) o ≡ Some n → n ≤ i
+    → OfBody (λ b. AreForms t (forms_of (map form_of xs)) (take i (base_kinds b))) o → OfBody (λ b. AreForms t (told es (map form_of xs)) (base_kinds b)) o
+bases_told t o xs es p n i a e l h = subst (λ fs. OfBody (λ b. AreForms t fs (base_kinds b)) o) (sym (told_forms es (map form_of xs) a.told_ends))
+    (taken (AreForms t (forms_of (map form_of xs))) base_kinds (λ (b : ClassBody). length b.bases) n i o (λ b. count_kinds (λ (c : ClassId). Some (kind.Class c)) b.bases) e l h)
+
+pub fields_told : (t : Tables) (o : Option ClassBody) (xs : List Shape) (es : List ℕ) (p n i : ℕ) → AreListed xs es p → option_map (λ (b : ClassBody). length b.fields) o ≡ Some n → n ≤ i
+    → OfBody (λ b. AreForms t (forms_of (map form_of xs)) (take i (field_kinds t b))) o → OfBody (λ b. AreForms t (told es (map form_of xs)) (field_kinds t b)) o
+fields_told t o xs es p n i a e l h = subst (λ fs. OfBody (λ b. AreForms t fs (field_kinds t b)) o) (sym (told_forms es (map form_of xs) a.told_ends))
+    (taken (AreForms t (forms_of (map form_of xs))) (field_kinds t) (λ (b : ClassBody). length b.fields) n i o (λ b. count_kinds (field_kind t) b.fields) e l h)
+
+-- a union has no bases
+
+pub union_form : (t : Tables) (c : ClassId) (ms : Forms) (k : ClassKey) (o : Option ClassDecl) → slice_get t.classes c.0 ≡ o → k ≡ key.Union → option_map (λ (d : ClassDecl). d.key) o ≡ Some k
+    → ((d : ClassDecl) (b : ClassBody) → o ≡ Some d → d.body ≡ Some b → IsFit t d.key b) → OfBody (λ b. AreForms t ms (field_kinds t b)) (option_and_then (λ (d : ClassDecl). d.body) o)
+    → kinds.OfClass (λ k b. (is_union_key k ≡ true) × (b.bases ≡ []) × AreForms t ms (field_kinds t b)) o
+union_form t c ms k None i u e f h = absurd h
+union_form t c ms k (Some d) i u e f h = body d.body refl h
   where
-    body : (d : ClassDecl) (x : Option ClassBody) → is_union_key d.key ≡ true → option_map (λ (b : ClassBody). length b.bases) x ≡ Some n → OfBody (λ b. AreForms t ms (field_kinds t b)) x
-        → OfBody (λ b. (is_union_key d.key ≡ true) × (b.bases ≡ []) × AreForms t ms (field_kinds t b)) x
-    body d None v e h = absurd h
-    body d (Some b) v e h = (v, no_items b.bases (some_inj (length b.bases) n e ∙ z), h)
+    is_key : d.key ≡ key.Union
+    is_key = some_inj d.key k e ∙ u
 
-    go : (x : Option ClassDecl) → option_map (λ (d : ClassDecl). d.key) x ≡ Some k → option_map (λ (b : ClassBody). length b.bases) (option_and_then (λ (d : ClassDecl). d.body) x) ≡ Some n
-        → OfBody (λ b. AreForms t ms (field_kinds t b)) (option_and_then (λ (d : ClassDecl). d.body) x) → kinds.OfClass (λ k b. (is_union_key k ≡ true) × (b.bases ≡ []) × AreForms t ms (field_kinds t b)) x
-    go None e f h = absurd (cc)
-    go (Some d) e f h = body d d.body (ap is_union_key (some_inj d.key k e) ∙ u) f h
+    body : (x : Option ClassBody) → d.body ≡ x → OfBody (λ b. AreForms t ms (field_kinds t b)) x → OfBody (λ b. (is_union_key d.key ≡ true) × (b.bases ≡ []) × AreForms t ms (field_kinds t b)) x
+    body None v h = absurd h
+    body (Some b) v h = (ap is_union_key is_key, (f d b refl v).alone is_key, h)
 
 pub get_within : {A : Type 0} (xs : List A) (i : ℕ) (x : A) → slice_get xs i ≡ Some x → i < length xs
 get_within [] i x e = absurd (cc)

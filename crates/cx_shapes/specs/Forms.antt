@@ -1,6 +1,6 @@
 -- The forms of objects, and how their parts are numbered: an object is number 0 in itself, and its bases, members or
 -- elements follow one another, each with all its own parts ([intro.object]).
-use Rattle.std.specs.Prelude.{◌≡◌, ℕ, zero, suc, ◌+◌, ◌*◌, ◌-◌, ◌/◌, ◌^◌, ◌<◌, ◌≤◌, nat_lt, List, [], ◌∷◌, Option, None, Some, option_map, option_and_then, if◌then◌else◌}
+use Rattle.std.specs.Prelude.{◌≡◌, ℕ, zero, suc, ◌+◌, ◌*◌, ◌-◌, ◌/◌, ◌^◌, ◌<◌, ◌≤◌, ◌==◌, ◌&&◌, Bool, true, false, nat_lt, List, [], ◌∷◌, map, Option, None, Some, option_map, option_and_then, if◌then◌else◌}
 use Rattle.cx_type_defs.specs.declared.ids.Step.{Step}
 use Rattle.cx_type_defs.specs.declared.ids.Step.TheVariants as step
 use Rattle.cx_shapes.specs.declared.shape.Shape.{Shape, fold-Shape}
@@ -18,19 +18,6 @@ mutual
     End : Forms
     More : Form → Forms → Forms
 
-abbrev pub forms_of : List Form → Forms
-forms_of [] = End
-forms_of (f ∷ fs) = More f (forms_of fs)
-
-abbrev pub shape_step : Shape-F Form → Form
-shape_step Shape-F.Leaf = Leaf
-shape_step (Shape-F.Row n f) = Row n f
-shape_step (Shape-F.Class bs ms) = Class (forms_of bs) (forms_of ms)
-shape_step (Shape-F.Union ms) = Union (forms_of ms)
-
-abbrev pub form_of : Shape → Form
-form_of = fold-Shape Form shape_step
-
 -- how many parts there are, itself counted
 abbrev mutual
   pub size : Form → ℕ
@@ -42,6 +29,35 @@ abbrev mutual
   pub sizes : Forms → ℕ
   sizes End = 0
   sizes (More f fs) = size f + sizes fs
+
+abbrev pub forms_of : List Form → Forms
+forms_of [] = End
+forms_of (f ∷ fs) = More f (forms_of fs)
+
+-- the numbers tell where each of a list ends, which begins at a number
+abbrev pub are_ends : ℕ → List Form → List ℕ → Bool
+are_ends n [] [] = true
+are_ends n (f ∷ fs) (e ∷ es) = (e == n + size f) && are_ends e fs es
+are_ends n fs es = false
+
+-- the forms of a list whose ends are told; where they are told wrongly, one that is too large for the code
+unfoldable pub told : List ℕ → List Form → Forms
+told es fs = if are_ends 0 fs es then forms_of fs else More (Row (2 ^ 62) Leaf) End
+
+-- where an item begins: at the end of the one before it, the first at that number
+abbrev pub start_at : ℕ → List ℕ → ℕ → ℕ
+start_at n es zero = n
+start_at n [] (suc i) = n
+start_at n (e ∷ es) (suc i) = start_at e es i
+
+abbrev pub shape_step : Shape-F Form → Form
+shape_step Shape-F.Leaf = Leaf
+shape_step (Shape-F.Row n f) = Row n f
+shape_step (Shape-F.Class bs es ms fs) = Class (told es bs) (told fs ms)
+shape_step (Shape-F.Union ms fs) = Union (told fs ms)
+
+abbrev pub form_of : Shape → Form
+form_of = fold-Shape Form shape_step
 
 -- how many forms there are in it, an array's element counted once ([basic.types])
 abbrev mutual
@@ -63,6 +79,12 @@ pub record Small (f : Form) : Type 0 where
 pub record AllSmall (fs : Forms) : Type 0 where
   pub few_parts : sizes fs < 2 ^ 62
   pub few_nodes : nodes_in fs < 2 ^ 32
+
+-- shapes one behind the other, with their ends and the number of their parts
+pub record AreListed (xs : List Shape) (es : List ℕ) (parts : ℕ) : Type 0 where
+  pub told_ends : are_ends 0 (map form_of xs) es ≡ true
+  pub counted : parts ≡ sizes (forms_of (map form_of xs))
+  pub few : parts < 2 ^ 62
 
 -- a part: its number, and its form
 abbrev pub Part : Type 0

@@ -1,7 +1,7 @@
 //! Whether a shape is small enough for the numbers of the code.
 
 ghost use Rattle.std.specs.Prelude.{◌≡◌, ℕ, ◌+◌, ◌*◌, ◌^◌, ◌<◌, map, Option, Some, None, IfSome};
-ghost use Rattle.cx_shapes.specs.Forms.{form_of, forms_of, size, sizes, nodes, nodes_in, Small};
+ghost use Rattle.cx_shapes.specs.Forms.{form_of, told, size, sizes, nodes, nodes_in};
 
 use crate::shape::Shape;
 
@@ -39,16 +39,16 @@ pub fn measured(shape: &Shape) -> Option<Measure>
                 1 + u64::from(element.nodes),
             )
         }
-        Shape::Class(bases, members) => {
-            let bases = all_measured(bases.as_slice())?;
-            let members = all_measured(members.as_slice())?;
+        Shape::Class(bases, base_ends, members, member_ends) => {
+            let bases = all_measured(bases.as_slice(), base_ends.as_slice())?;
+            let members = all_measured(members.as_slice(), member_ends.as_slice())?;
             within(
                 1 + u128::from(bases.parts) + u128::from(members.parts),
                 1 + u64::from(bases.nodes) + u64::from(members.nodes),
             )
         }
-        Shape::Union(members) => {
-            let members = all_measured(members.as_slice())?;
+        Shape::Union(members, ends) => {
+            let members = all_measured(members.as_slice(), ends.as_slice())?;
             within(1 + u128::from(members.parts), 1 + u64::from(members.nodes))
         }
     }
@@ -56,16 +56,22 @@ pub fn measured(shape: &Shape) -> Option<Measure>
 
 #[cycle(measured)]
 #[tactic(auto, using(crate::proofs::Counting::sizes_more, crate::proofs::Counting::nodes_more))]
-fn all_measured(shapes: &[Shape]) -> Option<Measure>
-    ensures { IfSome result (λ m. (m.parts ≡ sizes (forms_of (map form_of shapes.now))) × (m.nodes ≡ nodes_in (forms_of (map form_of shapes.now))) × (m.parts < 2 ^ 62)) }
+fn all_measured(shapes: &[Shape], ends: &[u64]) -> Option<Measure>
+    ensures { IfSome result (λ m. (m.parts ≡ sizes (told ends.now (map form_of shapes.now))) × (m.nodes ≡ nodes_in (told ends.now (map form_of shapes.now))) × (m.parts < 2 ^ 62)) }
 {
+    if shapes.len() != ends.len() {
+        return None;
+    }
     let mut total = Measure { parts: 0, nodes: 0 };
-    for shape in shapes {
+    for (i, shape) in shapes.iter().enumerate() {
         let next = measured(shape)?;
         total = within(
             u128::from(total.parts) + u128::from(next.parts),
             u64::from(total.nodes) + u64::from(next.nodes),
         )?;
+        if ends[i] != total.parts {
+            return None;
+        }
     }
     Some(total)
 }

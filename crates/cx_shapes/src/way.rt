@@ -1,11 +1,12 @@
 //! From a number to the part that has it, and back.
 
 ghost use Rattle.std.specs.Prelude.{◌≡◌, ℕ, suc, ◌+◌, ◌/◌, ◌*◌, ◌^◌, ◌<◌, ◌≤◌, map, length, slice_get, Option, Some, None, option_map, IfSome, MatchOption};
-ghost use Rattle.cx_shapes.specs.Forms.{form_of, forms_of, size, sizes, nodes_in, Small, AllSmall, Form, Row, item, search, by, further, part_of, way, steps_at, below_of, Leads, Stands};
+ghost use Rattle.cx_shapes.specs.Forms.{form_of, told, start_at, size, sizes, nodes_in, Small, AllSmall, Form, Row, item, search, by, further, part_of, way, steps_at, below_of, Leads, Stands};
 ghost use Rattle.cx_type_defs.specs.declared.ids.Step.TheVariants as Step;
+ghost use Rattle.std.specs.List.Sorted.{IsNonDecreasing};
 ghost use Rattle.cx_shapes.specs.Ways.{piece_seen, found_seen, way_seen};
 
-use crate::shape::{Shape, size_of, sizes_of};
+use crate::shape::{Shape, before, size_of, sizes_of};
 use cx_types::Step;
 
 /// A part of a shape: its number there, and its shape.
@@ -31,61 +32,46 @@ pub struct Way<'a> {
     pub shape: &'a Shape,
 }
 
-#[tactic(auto, using(crate::proofs::Counting::nodes_pos))]
-fn item_at(shapes: &[Shape], index: u32) -> Option<Piece<'_>>
-    requires { AllSmall (forms_of (map form_of shapes.now)) }
-    ensures gives { option_map piece_seen result ≡ item (forms_of (map form_of shapes.now)) index }
-    ensures within { IfSome result (λ p. p.from + size (form_of p.shape.now) ≤ sizes (forms_of (map form_of shapes.now))) }
+/// The item with an index.
+fn item_at<'a>(shapes: &'a [Shape], ends: &[u64], index: u32) -> Option<Piece<'a>>
+    requires { AllSmall (told ends.now (map form_of shapes.now)) }
+    ensures gives { option_map piece_seen result ≡ item (told ends.now (map form_of shapes.now)) index }
+    ensures within { IfSome result (λ p. p.from + size (form_of p.shape.now) ≤ sizes (told ends.now (map form_of shapes.now))) }
 {
-    match shapes.split_first() {
+    match sqlite_items::at(shapes, index as usize) {
         None => None,
-        Some((first, rest)) => {
-            if index == 0 {
-                Some(Piece {
-                    from: 0,
-                    shape: first,
-                })
-            } else {
-                match item_at(rest, index - 1) {
-                    None => None,
-                    Some(piece) => Some(Piece {
-                        from: size_of(first) + piece.from,
-                        shape: piece.shape,
-                    }),
-                }
-            }
-        }
+        Some(shape) => Some(Piece {
+            from: before(ends, index as usize),
+            shape,
+        }),
     }
 }
 
-#[tactic(auto, using(crate::proofs::Counting::nodes_pos))]
-fn search_at(shapes: &[Shape], at: u64) -> Option<Found<'_>>
-    requires { AllSmall (forms_of (map form_of shapes.now)) }
-    ensures gives { option_map found_seen result ≡ search (forms_of (map form_of shapes.now)) at }
-    ensures within { IfSome result (λ x. x.from ≤ at) }
-    ensures few { IfSome result (λ x. x.index < nodes_in (forms_of (map form_of shapes.now))) }
+/// The first item that ends behind a number; the length of the list where none does.
+fn index_at(ends: &[u64], at: u64) -> usize
+    requires { IsNonDecreasing ends.now }
+    ensures bound { result ≤ length ends.now }
+    ensures from { start_at 0 ends.now result ≤ at }
+    ensures behind { result < length ends.now → at < start_at 0 ends.now (suc result) }
 {
-    match shapes.split_first() {
+    ends.partition_point(|end| *end <= at)
+}
+
+/// The item that holds a number.
+fn search_at<'a>(shapes: &'a [Shape], ends: &[u64], at: u64) -> Option<Found<'a>>
+    requires { AllSmall (told ends.now (map form_of shapes.now)) }
+    ensures gives { option_map found_seen result ≡ search (told ends.now (map form_of shapes.now)) at }
+    ensures within { IfSome result (λ x. x.from ≤ at) }
+    ensures few { IfSome result (λ x. x.index < nodes_in (told ends.now (map form_of shapes.now))) }
+{
+    let index = index_at(ends, at);
+    match sqlite_items::at(shapes, index) {
         None => None,
-        Some((first, rest)) => {
-            let size = size_of(first);
-            if at < size {
-                Some(Found {
-                    index: 0,
-                    from: 0,
-                    shape: first,
-                })
-            } else {
-                match search_at(rest, at - size) {
-                    None => None,
-                    Some(found) => Some(Found {
-                        index: found.index + 1,
-                        from: size + found.from,
-                        shape: found.shape,
-                    }),
-                }
-            }
-        }
+        Some(shape) => Some(Found {
+            index: index as u32,
+            from: before(ends, index),
+            shape,
+        }),
     }
 }
 
@@ -148,15 +134,20 @@ fn way_in(shape: &Shape, at: u64) -> Option<Way<'_>>
     match shape {
         Shape::Leaf => None,
         Shape::Row(count, element) => row_way(*count, element.get(), at),
-        Shape::Class(bases, members) => {
-            let before = sizes_of(bases.as_slice());
+        Shape::Class(bases, base_ends, members, member_ends) => {
+            let before = sizes_of(bases.as_slice(), base_ends.as_slice());
             if at < before {
-                base_way(search_at(bases.as_slice(), at))
+                base_way(search_at(bases.as_slice(), base_ends.as_slice(), at))
             } else {
-                field_way(search_at(members.as_slice(), at - before), before)
+                field_way(
+                    search_at(members.as_slice(), member_ends.as_slice(), at - before),
+                    before,
+                )
             }
         }
-        Shape::Union(members) => field_way(search_at(members.as_slice(), at), 0),
+        Shape::Union(members, ends) => {
+            field_way(search_at(members.as_slice(), ends.as_slice(), at), 0)
+        }
     }
 }
 
@@ -189,19 +180,19 @@ fn element_at(count: u32, element: &Shape, index: u32) -> Option<Piece<'_>>
     }
 }
 
-fn base_at(bases: &[Shape], index: u32) -> Option<Piece<'_>>
-    requires { AllSmall (forms_of (map form_of bases.now)) }
-    ensures { option_map piece_seen result ≡ option_map (further 1) (item (forms_of (map form_of bases.now)) index) }
+fn base_at<'a>(bases: &'a [Shape], ends: &[u64], index: u32) -> Option<Piece<'a>>
+    requires { AllSmall (told ends.now (map form_of bases.now)) }
+    ensures { option_map piece_seen result ≡ option_map (further 1) (item (told ends.now (map form_of bases.now)) index) }
 {
-    moved(item_at(bases, index), 1)
+    moved(item_at(bases, ends, index), 1)
 }
 
-fn field_at(members: &[Shape], index: u32, before: u64) -> Option<Piece<'_>>
+fn field_at<'a>(members: &'a [Shape], ends: &[u64], index: u32, before: u64) -> Option<Piece<'a>>
     requires few { before < 2 ^ 62 }
-    requires small { AllSmall (forms_of (map form_of members.now)) }
-    ensures { option_map piece_seen result ≡ option_map (further (suc before)) (item (forms_of (map form_of members.now)) index) }
+    requires small { AllSmall (told ends.now (map form_of members.now)) }
+    ensures { option_map piece_seen result ≡ option_map (further (suc before)) (item (told ends.now (map form_of members.now)) index) }
 {
-    moved(item_at(members, index), before + 1)
+    moved(item_at(members, ends, index), before + 1)
 }
 
 /// The part that a step leads to; None where it leads to none.
@@ -211,11 +202,16 @@ pub fn part_at(shape: &Shape, step: Step) -> Option<Piece<'_>>
 {
     match (shape, step) {
         (Shape::Row(count, element), Step::Elem(index)) => element_at(*count, element.get(), index),
-        (Shape::Class(bases, _), Step::Base(index)) => base_at(bases.as_slice(), index),
-        (Shape::Class(bases, members), Step::Field(index)) => {
-            field_at(members.as_slice(), index, sizes_of(bases.as_slice()))
+        (Shape::Class(bases, ends, _, _), Step::Base(index)) => {
+            base_at(bases.as_slice(), ends.as_slice(), index)
         }
-        (Shape::Union(members), Step::Field(index)) => field_at(members.as_slice(), index, 0),
+        (Shape::Class(bases, base_ends, members, member_ends), Step::Field(index)) => {
+            let before = sizes_of(bases.as_slice(), base_ends.as_slice());
+            field_at(members.as_slice(), member_ends.as_slice(), index, before)
+        }
+        (Shape::Union(members, ends), Step::Field(index)) => {
+            field_at(members.as_slice(), ends.as_slice(), index, 0)
+        }
         _ => None,
     }
 }

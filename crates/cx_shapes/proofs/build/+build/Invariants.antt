@@ -1,6 +1,6 @@
 use Rattle.std.proofs.Common.{◌+◌, ◌*◌, map, take}
 use Rattle.cx_type_defs.specs.Tables.{body_at}
-use Rattle.cx_shapes.specs.Forms.{form_of, forms_of}
+use Rattle.cx_shapes.specs.Forms.{form_of, forms_of, AreListed}
 use Rattle.cx_shapes.specs.Kinds.{AreForms, OfBody, base_kinds, field_kinds}
 use Rattle.cx_shapes.proofs.build.+build.Given as goal
 
@@ -23,7 +23,13 @@ abbrev pub decreases-field_shapes : goal.decreases-field_shapes
 decreases-field_shapes l = 4 * l.levels + 1
 
 abbrev pub invariant-base_shapes-loop-i : goal.invariant-base_shapes-loop-i
-invariant-base_shapes-loop-i l = OfBody (λ b. AreForms l.types (forms_of (map form_of l.shapes)) (take l.i (base_kinds b))) (body_at l.types l.class)
+invariant-base_shapes-loop-i l = record {
+  listed : AreListed l.listed.shapes l.listed.ends l.listed.parts;
+  forms : OfBody (λ b. AreForms l.types (forms_of (map form_of l.listed.shapes)) (take l.i (base_kinds b))) (body_at l.types l.class);
+}
 
 abbrev pub invariant-field_shapes-loop-i : goal.invariant-field_shapes-loop-i
-invariant-field_shapes-loop-i l = OfBody (λ b. AreForms l.types (forms_of (map form_of l.shapes)) (take l.i (field_kinds l.types b))) (body_at l.types l.class)
+invariant-field_shapes-loop-i l = record {
+  listed : AreListed l.listed.shapes l.listed.ends l.listed.parts;
+  forms : OfBody (λ b. AreForms l.types (forms_of (map form_of l.listed.shapes)) (take l.i (field_kinds l.types b))) (body_at l.types l.class);
+}
