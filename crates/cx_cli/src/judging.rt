@@ -11,9 +11,10 @@ ghost use Rattle.cx_cli.specs.Judging.{MadeOf, TellsFaults};
 
 use crate::{Job, JobMode};
 use cx_base::{Limits, Memory};
+use cx_lexer::Lexer;
 use cx_made::made_unit;
-use cx_source::{ReadAnswer, Source, read_all};
-use cx_unit::{Verdict, too_long, verdict_on};
+use cx_source::{ReadAnswer, Source, feed_all};
+use cx_unit::{Verdict, too_long, verdict_of_lexed, verdict_on};
 use std::alloc::Global;
 
 // The longest source, in bytes.
@@ -52,13 +53,17 @@ fn judged_source<S: Source>(
     ensures faults { TellsFaults (S.faults source.old) (S.faults source.new) result }
     ensures reads { S.reads source.new ≤ S.reads source.old + 4_194_305 }
 {
-    let bytes = match read_all(alloc, source, LONGEST_SOURCE) {
-        Ok(bytes) => bytes,
+    let mut lexer = match Lexer::new(alloc) {
+        Ok(lexer) => lexer,
+        Err(Memory) => return Err(NoVerdict::Memory),
+    };
+    match feed_all(source, &mut lexer, LONGEST_SOURCE) {
+        Ok(_) => {}
         Err(ReadAnswer::TooLong) => return Ok(too_long(alloc)),
         Err(ReadAnswer::ReadFault) => return Err(NoVerdict::ReadFault),
         Err(ReadAnswer::Memory) => return Err(NoVerdict::Memory),
-    };
-    match verdict_on(alloc, &bytes, limits) {
+    }
+    match verdict_of_lexed(alloc, lexer.end(), limits) {
         Ok(verdict) => Ok(verdict),
         Err(Memory) => Err(NoVerdict::Memory),
     }

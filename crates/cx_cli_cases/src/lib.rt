@@ -7,6 +7,8 @@ mod cause_tests;
 mod mode_tests;
 mod never_failing;
 #[cfg(test)]
+mod piece_tests;
+#[cfg(test)]
 mod runs;
 
 pub use never_failing::answered;

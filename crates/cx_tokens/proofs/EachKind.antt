@@ -6,7 +6,6 @@ use Rattle.std.proofs.lemmas.List.Elements.{All-append, All-cons, All-nil}
 use Rattle.cx_base.specs.declared.diag.Mark.{Mark}
 use Rattle.cx_base.specs.declared.int_type.IntType.{IntType}
 use Rattle.cx_base.specs.declared.rule.Rule.TheVariants as rule
-use Rattle.cx_ints.specs.Literals.{literal_type}
 use Rattle.cx_ints.specs.Ranges.{Fits}
 use Rattle.cx_ints.specs.declared.literals.Suffix.{Suffix}
 use Rattle.cx_ints.proofs.Listed.{literal_fits}
@@ -18,11 +17,11 @@ use Rattle.cx_tokens.specs.Bytes.{begins_name, byte_at, is_blank, is_splice}
 use Rattle.cx_tokens.specs.Cut.{IsCut, Piece, end_token, found_at, opens_line, token_from, tokens_from, tokens_of}
 use Rattle.cx_tokens.specs.Marks.{mark_of}
 use Rattle.cx_tokens.specs.Literals.{char_of, literal_flaws, literal_kind, literal_size, part_value, quoted, quoted_at}
-use Rattle.cx_tokens.specs.Names.{alternatives, is_among, is_left_out_name, is_quote, longest_name, name, name_kind, name_size, name_with, spells_in, words}
+use Rattle.cx_tokens.specs.Names.{alternatives, is_among, is_left_out_name, is_quote, longest_name, name, name_size, name_with, spells_in, words}
 use Rattle.cx_tokens.specs.Numbers.{are_digits, begins_number, digits_of, number, number_size, number_type, radix_of, suffix_of, suffixed, tail_of, typed, value_of}
 use Rattle.cx_tokens.specs.Pieces.{Found, white, token, faulty, flaw, unless_faulty}
 use Rattle.cx_tokens.specs.Punctuators.{doubles, doubles_left_out, is_lone_less, punctuator, singles, triples, triples_left_out}
-use Rattle.cx_tokens.specs.Space.{begins_block_comment, begins_line_comment, block_comment, comment_body, hash, is_marker, line_comment, line_size, splices}
+use Rattle.cx_tokens.specs.Space.{begins_block_comment, begins_line_comment, block_comment, comment_body, hash, line_comment, line_size, splices}
 use Rattle.cx_tokens.specs.Tokens.{EndsOnce, HoldsItsValue, Lexes}
 
 -- a token's kind other than `End`, with a value in range

@@ -1,11 +1,17 @@
 pub mod Places
 pub mod Parts
 pub mod EachFlaw
+pub mod Sizes
 pub mod MarkSteps
 pub mod Fit
 pub mod Stepping
 pub mod Cuts
 pub mod Reach
+pub mod DecidedPlaces
+pub mod DecidedLiterals
+pub mod Deciding
+pub mod Staying
+pub mod Going
 pub mod EachKind
 pub mod Examples
 pub mod Worked

@@ -1,5 +1,6 @@
 -- How far a text is read.
 use Rattle.std.proofs.Common.{◌≡◌, ◌≢◌, ℕ, ◌+◌, ◌<◌, ◌≤◌, Bool, true, false, cond, List, [], ◌∷◌, ◌++◌, length, drop, take, map, min, Some, Err, refl, ap, sym, ◌∙◌, subst, arith, length-drop, length-take, length-append, append_assoc, ltb}
+use Rattle.std.specs.Prelude.{IfErr, IfOk, Result, Ok}
 use Rattle.std.specs.List.{fold}
 use Rattle.std.proofs.lemmas.Bool.{le-ltb, lt-ltb, ltb-false, ltb-true}
 use Rattle.std.proofs.lemmas.List.{drop-drop}
@@ -13,28 +14,14 @@ use Rattle.cx_tokens.specs.declared.LexAnswer.TheVariants as answers
 use Rattle.cx_tokens.specs.Faults.{earlier, fault_at, faults_from, first_of}
 use Rattle.cx_tokens.specs.Tokens.{Explains, LexFault, Lexes}
 use Rattle.cx_tokens.specs.Marks.{mark_of}
+use Rattle.cx_tokens.specs.Reached.{Answers, Reached, Stands, onto}
 use Rattle.cx_tokens.specs.Pieces.{Found, white, token, faulty, flaws_of, size_of}
 use Rattle.cx_tokens.specs.Shapes.{earlier_flaw}
 use Rattle.cx_tokens.specs.Steps.{Fails, IsFirstFlaw, Passes, Steps, next_piece}
-use Rattle.cx_tokens.specs.Cut.{IsCut, Piece, end_token, found_at, opens_behind, opens_line, piece_at, tokens_from, tokens_of}
+use Rattle.cx_tokens.specs.Cut.{IsCut, Piece, end_token, found_at, opens_behind, piece_at, tokens_from, tokens_of}
 use Rattle.cx_tokens.proofs.Cuts.{cut_exists, piece_some}
 use Rattle.cx_tokens.proofs.Fit.{AllSit, FlawsSit, Sits, is_found}
 use Rattle.cx_tokens.proofs.Stepping.{earlier_sits, first_sits, take_piece}
-
--- all pieces, given those before, the nearest first, and those behind
-abbrev pub onto : List Piece → List Piece → List Piece
-onto [] pieces = pieces
-onto (p ∷ before) pieces = onto before (p ∷ pieces)
-
--- Whatever the rest is cut into completes the text's cut, its faults and its tokens.
-pub record Reached (bytes : List ℕ) (here : Here) (tokens : List Token) : Type 0 where
-  pub before : List Piece
-  pub within : here.at ≤ length bytes
-  pub marked : here.mark ≡ mark_of (take here.at bytes)
-  pub opened : here.opens ≡ opens_line before
-  pub cut : (pieces : List Piece) → IsCut before (drop here.at bytes) pieces → IsCut [] bytes (onto before pieces)
-  pub sound : (pieces : List Piece) → faults_from [] (onto before pieces) ≡ faults_from (take here.at bytes) pieces
-  pub told : (pieces : List Piece) → tokens_from [] (onto before pieces) ≡ tokens ++ tokens_from (take here.at bytes) pieces
 
 pub reached_start : (bytes : List ℕ) → Reached bytes (record { at = 0; mark = mark_of []; opens = true }) []
 reached_start bytes = record {
@@ -200,3 +187,15 @@ pub explained : (bytes : List ℕ) (here : Here) (old new : List Token) (answer 
     → Steps bytes here old new (Err answer) → Explains bytes answer
 explained bytes here old new (answers.Fault d) h r s = reached_fault bytes here old d h r s
 explained bytes here old new answers.Memory h r s = tt
+
+-- what a finished walk answers
+pub lexed : (bytes : List ℕ) (result : Result (List Token) LexAnswer) → Answers bytes result → IfOk result (λ tokens. Lexes bytes tokens)
+lexed bytes (Ok tokens) h = h
+lexed bytes (Err answer) h = tt
+
+pub unlexed : (bytes : List ℕ) (result : Result (List Token) LexAnswer) → Answers bytes result → IfErr result (λ answer. Explains bytes answer)
+unlexed bytes (Ok tokens) h = tt
+unlexed bytes (Err answer) h = h
+
+pub from_start : (bytes : List ℕ) (start : Here) (tokens : List Token) → Stands [] start [] → tokens ≡ [] → Reached bytes start tokens
+from_start bytes start tokens h e = subst (λ ts. Reached bytes start ts) (sym e) (h.reached bytes)

@@ -1,5 +1,6 @@
 pub mod Bytes
 pub mod Cut
+pub mod Decided
 pub mod Faults
 pub mod Literals
 pub mod Marks
@@ -7,6 +8,7 @@ pub mod Names
 pub mod Numbers
 pub mod Pieces
 pub mod Punctuators
+pub mod Reached
 pub mod Scanning
 pub mod Shapes
 pub mod Space

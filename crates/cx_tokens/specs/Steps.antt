@@ -1,5 +1,5 @@
 -- What the code does over a piece.
-use Rattle.std.specs.Prelude.{◌≡◌, ℕ, Bool, ◌+◌, not, ◌==◌, ◌||◌, ◌&&◌, List, [], ◌++◌, if◌then◌else◌, fold, length, take, drop, Result, Ok, Err}
+use Rattle.std.specs.Prelude.{◌≡◌, ℕ, Bool, ◌+◌, ◌<◌, ◌≤◌, not, ◌==◌, ◌||◌, ◌&&◌, List, [], ◌++◌, fold, length, take, drop, Result, Ok, Err}
 use Rattle.std.specs.List.{list_any}
 use Rattle.cx_base.specs.declared.diag.Diag.{Diag}
 use Rattle.cx_base.specs.declared.diag.Mark.{Mark}
@@ -10,18 +10,10 @@ use Rattle.cx_tokens.specs.declared.shapes.Flaw.{Flaw}
 use Rattle.cx_tokens.specs.declared.step.Here.{Here}
 use Rattle.cx_tokens.specs.Bytes.{byte_at, is_line_feed}
 use Rattle.cx_tokens.specs.Faults.{fault_at}
-use Rattle.cx_tokens.specs.Marks.{mark_of}
+use Rattle.cx_tokens.specs.Marks.{Counts, mark_of, marks_on}
 use Rattle.cx_tokens.specs.Pieces.{Found, white, token, faulty, flaws_of}
 use Rattle.cx_tokens.specs.Shapes.{earlier_flaw}
 use Rattle.cx_tokens.specs.Cut.{Piece, opens_behind, piece_at, tokens_of}
-
--- one byte further on
-abbrev pub mark_after : Mark → ℕ → Mark
-mark_after m b = record {
-  byte = m.byte + 1;
-  line = if b == 10 then m.line + 1 else m.line;
-  col = if b == 10 then 1 else m.col + 1;
-}
 
 -- behind white space, as `opens_behind` has it
 abbrev pub opens_after : List ℕ → Bool → Bool
@@ -48,13 +40,25 @@ IsFirstFlaw (faulty n f fs) g = fold earlier_flaw f fs ≡ g
 abbrev pub Fails : List ℕ → Here → Diag → Type 0
 Fails bytes here d = (g : Flaw) × IsFirstFlaw (next_piece bytes here).found g × (d ≡ fault_at (take here.at bytes) (next_piece bytes here).bytes g)
 
--- a flaw's fault, by its places in the whole text
-abbrev pub fault_in : List ℕ → ℕ → Flaw → Diag
-fault_in bytes at f = record {
-  span = record { start = mark_of (take (at + f.start) bytes); end = mark_of (take (at + f.start + f.size) bytes) };
+-- a flaw's fault, given the mark before the rest of the text in which it stands
+abbrev pub fault_on : Mark → List ℕ → Flaw → Diag
+fault_on mark rest f = record {
+  span = record { start = marks_on mark (take f.start rest); end = marks_on mark (take (f.start + f.size) rest) };
   rule = f.rule;
   frames = [];
 }
+
+-- a place behind another, over at most so many bytes
+pub record Lies (here next : Here) (n : ℕ) : Type 0 where
+  pub from : here.at ≤ next.at
+  pub within : next.at ≤ here.at + n
+  pub counted : Counts next.mark next.at
+
+-- a place behind another, over some of so many bytes
+pub record GoesOn (here next : Here) (n : ℕ) : Type 0 where
+  pub on : here.at < next.at
+  pub within : next.at ≤ here.at + n
+  pub counted : Counts next.mark next.at
 
 abbrev pub Steps : List ℕ → Here → List Token → List Token → Result Here LexAnswer → Type 0
 Steps bytes here old new (Ok next) = Passes bytes here next old new

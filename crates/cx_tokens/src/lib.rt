@@ -2,6 +2,7 @@
 #![tactic(auto)]
 
 mod bytes;
+mod decided;
 mod found;
 mod laws;
 mod lexer;
@@ -19,7 +20,8 @@ mod step;
 use cx_base::Diag;
 pub use cx_token_defs::{Token, TokenKind};
 pub use laws::tokens_or_fault;
-pub use lexer::lex;
+pub use lexer::{advance, finish, lex, start};
+pub use step::Here;
 
 /// Why there are no tokens.
 #[derive(Debug, Drop)]

@@ -1,7 +1,6 @@
 //! Marks.
-ghost use Rattle.std.specs.Prelude.{◌≡◌, ◌<◌, ◌≤◌, ◌+◌, ◌^◌, length, take};
-ghost use Rattle.cx_tokens.specs.Marks.{mark_of};
-ghost use Rattle.cx_tokens.specs.Steps.{mark_after};
+ghost use Rattle.std.specs.Prelude.{◌≡◌, ◌<◌, ◌≤◌, ◌+◌, ◌^◌, length};
+ghost use Rattle.cx_tokens.specs.Marks.{mark_after, marks_on};
 
 use cx_base::Mark;
 
@@ -26,19 +25,16 @@ fn mark_after(mark: Mark, b: u8) -> Mark
     }
 }
 
-/// The mark at a place of the text, given that of an earlier place.
-pub fn mark_at(bytes: &[u8], from: usize, start: Mark, to: usize) -> Mark
-    requires short { length bytes.now ≤ 4_194_305 }
-    requires ordered { from ≤ to }
-    requires within { to ≤ length bytes.now }
-    requires is_start { start ≡ mark_of (take from bytes.now) }
-    ensures { result ≡ mark_of (take to bytes.now) }
+/// The mark behind some bytes, given that before them.
+pub fn mark_on(bytes: &[u8], start: Mark) -> Mark
+    requires byte { start.byte + length bytes.now ≤ 4_194_305 }
+    requires line { start.line + length bytes.now ≤ 4_194_306 }
+    requires col { start.col + length bytes.now ≤ 4_194_306 }
+    ensures { result ≡ marks_on start bytes.now }
 {
     let mut mark = start;
-    let mut at = from;
-    'places: while at < to {
-        mark = mark_after(mark, bytes[at]);
-        at += 1;
+    for b in bytes {
+        mark = mark_after(mark, *b);
     }
     mark
 }

@@ -52,7 +52,7 @@ fn shape_with(flaw: Option<Flaw>, size: usize, kind: TokenKind) -> Shape
     ensures { result ≡ shape_with flaw (token size kind) }
 {
     match flaw {
-        Some(flaw) => Shape::Faulty(flaw),
+        Some(flaw) => Shape::Faulty(size, flaw),
         None => Shape::Token(size, kind),
     }
 }

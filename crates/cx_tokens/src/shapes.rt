@@ -13,21 +13,24 @@ pub struct Flaw {
     pub rule: Rule,
 }
 
-/// What begins at a place: so many bytes of white space or of a token, or something whose first fault this is.
+/// What begins at a place: so many bytes of white space or of a token, or so many of something whose first fault this is.
 #[derive(Clone, Copy, Debug, PartialEq, Eq)]
 pub enum Shape {
     White(usize),
     Token(usize, TokenKind),
-    Faulty(Flaw),
+    Faulty(usize, Flaw),
 }
 
 // The whole piece breaks the rule.
 pub fn broken(size: usize, rule: Rule) -> Shape
     ensures { result ≡ shape_of (broken size rule) }
 {
-    Shape::Faulty(Flaw {
-        start: 0,
+    Shape::Faulty(
         size,
-        rule,
-    })
+        Flaw {
+            start: 0,
+            size,
+            rule,
+        },
+    )
 }

@@ -6,7 +6,7 @@ ghost use Rattle.cx_tokens.specs.Space.{begins_block_comment, begins_line_commen
 
 use crate::bytes::{byte_at, front_of, is_digit, rest_from};
 use crate::scan::{Stop, place_of, place_within};
-use crate::shapes::{Flaw, Shape};
+use crate::shapes::{Flaw, Shape, broken};
 use cx_base::Rule;
 
 pub fn begins_line_comment(rest: &[u8]) -> bool
@@ -27,11 +27,12 @@ fn unless_spliced(rest: &[u8], size: usize) -> Shape
 {
     let at = place_within(Stop::Splice, rest, size);
     if at < size && at < rest.len() {
-        Shape::Faulty(Flaw {
+        let flaw = Flaw {
             start: at,
             size: 1,
             rule: Rule::LeftOut,
-        })
+        };
+        Shape::Faulty(size, flaw)
     } else {
         Shape::White(size)
     }
@@ -53,11 +54,12 @@ pub fn block_comment(rest: &[u8]) -> Shape
     if body < inner.len() {
         unless_spliced(rest, body + 4)
     } else {
-        Shape::Faulty(Flaw {
+        let flaw = Flaw {
             start: 0,
             size: 2,
             rule: Rule::OpenComment,
-        })
+        };
+        Shape::Faulty(body + 2, flaw)
     }
 }
 
@@ -77,10 +79,6 @@ pub fn hash(opens: bool, rest: &[u8]) -> Shape
     if opens && is_marker(rest) {
         Shape::White(1 + place_of(Stop::LineFeed, rest_from(rest, 1)))
     } else {
-        Shape::Faulty(Flaw {
-            start: 0,
-            size: 1,
-            rule: Rule::Directive,
-        })
+        broken(1, Rule::Directive)
     }
 }

@@ -1,15 +1,15 @@
 //! Over one piece of the text.
-ghost use Rattle.std.specs.Prelude.{◌≡◌, ◌<◌, ◌≤◌, ◌+◌, ◌==◌, ◌||◌, ◌&&◌, ◌∷◌, ◌++◌, [], not, length, take, IfOk, OnOk};
+ghost use Rattle.std.specs.Prelude.{ℕ, List as Seq, ◌≡◌, ◌<◌, ◌≤◌, ◌+◌, ◌==◌, ◌||◌, ◌&&◌, ◌∷◌, ◌++◌, [], not, length, take, drop, IfOk, OnOk};
 ghost use Rattle.std.specs.List.{list_any};
 ghost use Rattle.cx_tokens.specs.Bytes.{byte_at, is_line_feed};
-ghost use Rattle.cx_tokens.specs.Marks.{mark_of};
-ghost use Rattle.cx_tokens.specs.Steps.{Steps, fault_in, opens_after};
-ghost use Rattle.cx_tokens.specs.Cut.{text_of, token_from};
+ghost use Rattle.cx_tokens.specs.Marks.{Counts, mark_of, marks_on};
+ghost use Rattle.cx_tokens.specs.Shapes.{shape_of};
+ghost use Rattle.cx_tokens.specs.Steps.{GoesOn, Steps, fault_on, opens_after};
+ghost use Rattle.cx_tokens.specs.Cut.{found_at, text_of, token_from};
 
-use crate::bytes::{byte_at, front_of, rest_from};
-use crate::found::found_at;
+use crate::bytes::{byte_at, front_of};
 use crate::literals::string_bytes;
-use crate::marks::mark_at;
+use crate::marks::mark_on;
 use crate::names::operator_of;
 use crate::shapes::{Flaw, Shape};
 use crate::{LexAnswer, Token, TokenKind};
@@ -19,6 +19,7 @@ use std::alloc::Global;
 /// A place of the text, its mark, and whether only white space stands before it in its line.
 #[derive(Clone, Copy)]
 pub struct Here {
+    /// How many bytes of the text stand before it.
     pub at: usize,
     pub mark: Mark,
     pub opens: bool,
@@ -65,18 +66,16 @@ fn token(
     tokens.push(Token { kind, span, text })
 }
 
-// The fault of a flaw of the piece that begins here.
-fn fault(alloc: Global, bytes: &[u8], here: Here, flaw: Flaw) -> LexAnswer
-    requires short { length bytes.now ≤ 4_194_305 }
-    requires within { here.at ≤ length bytes.now }
-    requires marked { here.mark ≡ mark_of (take here.at bytes.now) }
-    ensures { result ≡ LexAnswer.Fault (fault_in bytes.now here.at flaw) }
+// The fault of a flaw of the piece with which the rest begins.
+fn fault(alloc: Global, rest: &[u8], here: Here, flaw: Flaw) -> LexAnswer
+    requires room { here.at + length rest.now ≤ 4_194_305 }
+    requires counted { Counts here.mark here.at }
+    ensures { result ≡ LexAnswer.Fault (fault_on here.mark rest.now flaw) }
 {
-    let from = here.at.saturating_add(flaw.start);
-    let to = from.saturating_add(flaw.size).min(bytes.len());
-    let from = from.min(bytes.len());
-    let start = mark_at(bytes, here.at, here.mark, from);
-    let end = mark_at(bytes, from, start, to);
+    let from = flaw.start.min(rest.len());
+    let to = flaw.start.saturating_add(flaw.size).min(rest.len());
+    let start = mark_on(front_of(rest, from), here.mark);
+    let end = mark_on(front_of(rest, to), here.mark);
     let span = Span { start, end };
     LexAnswer::Fault(Diag {
         span,
@@ -85,44 +84,54 @@ fn fault(alloc: Global, bytes: &[u8], here: Here, flaw: Flaw) -> LexAnswer
     })
 }
 
-/// Over the next piece: its token is added, or its first fault is answered.
-pub fn step(
+// Behind a piece.
+fn behind(here: Here, piece: &[u8], opens: bool) -> Here
+    requires room { here.at + length piece.now ≤ 4_194_305 }
+    requires counted { Counts here.mark here.at }
+    ensures place { result ≡ record { at = here.at + length piece.now; mark = marks_on here.mark piece.now; opens = opens } }
+    ensures counted { Counts result.mark result.at }
+{
+    Here {
+        at: here.at + piece.len(),
+        mark: mark_on(piece, here.mark),
+        opens,
+    }
+}
+
+/// Over the piece with which the rest of a text begins and whose shape this is: its token is added, or its first
+/// fault is answered.
+pub fn over(
     alloc: Global,
     tokens: &mut List<Token>,
-    bytes: &[u8],
+    rest: &[u8],
     here: Here,
+    shape: Shape,
 ) -> Result<Here, LexAnswer>
-    requires short { length bytes.now ≤ 4_194_305 }
-    requires within { here.at < length bytes.now }
-    requires marked { here.mark ≡ mark_of (take here.at bytes.now) }
-    ensures { Steps bytes.now here tokens.old tokens.new result }
+    requires some { 0 < length rest.now }
+    requires room { here.at + length rest.now ≤ 4_194_305 }
+    requires counted { Counts here.mark here.at }
+    requires found { shape ≡ shape_of (found_at here.opens rest.now) }
+    ensures steps { (bytes : Seq ℕ) → drop here.at bytes ≡ rest.now → here.mark ≡ mark_of (take here.at bytes) → Steps bytes here tokens.old tokens.new result }
+    ensures on { IfOk result (λ next. GoesOn here next (length rest.now)) }
 {
-    let rest = rest_from(bytes, here.at);
-    match found_at(here.opens, rest) {
+    match shape {
         Shape::White(size) => {
             let piece = front_of(rest, size);
-            let at = here.at + piece.len();
-            let mark = mark_at(bytes, here.at, here.mark, at);
             let opens = opens_after(piece, here.opens);
-            Ok(Here { at, mark, opens })
+            Ok(behind(here, piece, opens))
         }
         Shape::Token(size, kind) => {
             let piece = front_of(rest, size);
-            let at = here.at + piece.len();
-            let mark = mark_at(bytes, here.at, here.mark, at);
+            let next = behind(here, piece, false);
             let span = Span {
                 start: here.mark,
-                end: mark,
+                end: next.mark,
             };
             match token(alloc, tokens, kind, piece, span) {
-                Ok(()) => Ok(Here {
-                    at,
-                    mark,
-                    opens: false,
-                }),
+                Ok(()) => Ok(next),
                 Err(_) => Err(LexAnswer::Memory),
             }
         }
-        Shape::Faulty(flaw) => Err(fault(alloc, bytes, here, flaw)),
+        Shape::Faulty(_, flaw) => Err(fault(alloc, rest, here, flaw)),
     }
 }

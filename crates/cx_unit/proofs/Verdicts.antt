@@ -1,5 +1,5 @@
 -- The one verdict on bytes, from what the lexer and the parser answered.
-use Rattle.std.proofs.Common.{◌≡◌, ◌⊎◌, inl, inr, ℕ, Bool, ◌<◌, ◌≤◌, List, [], ◌∷◌, ◌++◌, length, IfOk, Result, Ok, Err, refl, sym, ap, subst, ◌∙◌, true, false, nat_lt, arith}
+use Rattle.std.proofs.Common.{◌≡◌, ◌⊎◌, inl, inr, ℕ, Bool, ◌<◌, ◌≤◌, List, [], ◌∷◌, ◌++◌, length, IfErr, IfOk, Result, Ok, Err, refl, sym, ap, subst, ◌∙◌, true, false, nat_lt, arith}
 use Rattle.std.proofs.lemmas.Bool.Decides.{nat_tests}
 use Rattle.cx_base.specs.Only.{IsOnly}
 use Rattle.cx_base.specs.declared.Memory.{Memory as NoMemory}
@@ -11,6 +11,7 @@ use Rattle.cx_tokens.specs.declared.LexAnswer.TheVariants as answer
 use Rattle.cx_token_defs.specs.declared.Token.{Token}
 use Rattle.cx_tokens.specs.Cut.{Piece, token_from, tokens_of, tokens_from}
 use Rattle.cx_tokens.specs.Pieces.{Found, white, token, faulty}
+use Rattle.cx_tokens.specs.Reached.{Answers}
 use Rattle.cx_tokens.specs.Tokens.{Explains, LexFault, Lexes}
 use Rattle.cx_tokens.proofs.Cuts.{never_both, one_fault, one_list}
 use Rattle.cx_tree.specs.declared.decls.Unit.{Unit as Tree}
@@ -121,3 +122,9 @@ pub of_answer : (limits : Limits) (bytes : List ℕ) (said : LexAnswer) (result 
 of_answer limits bytes said (Err e) short explained refused = tt
 of_answer limits bytes (answer.Fault fault) (Ok v) short explained refused = of_fault limits bytes fault v short explained refused
 of_answer limits bytes answer.Memory (Ok v) short explained refused = absurd refused
+
+-- what lexing answers, by its two clauses
+pub answers_of : (bytes : List ℕ) (result : Result (List Token) LexAnswer) → IfOk result (λ tokens. Lexes bytes tokens) → IfErr result (λ answer. Explains bytes answer)
+    → Answers bytes result
+answers_of bytes (Ok tokens) h k = h
+answers_of bytes (Err answer) h k = k

@@ -9,4 +9,4 @@ mod operators;
 mod units;
 
 pub use cx_report::{Line, LineKind, Mode, Value, Verdict, report, summary};
-pub use units::{run_unit, too_long, verdict_on};
+pub use units::{run_unit, too_long, verdict_of_lexed, verdict_on};

@@ -1,7 +1,8 @@
 //! The verdict on a unit.
-ghost use Rattle.std.specs.Prelude.{◌≡◌, ◌≤◌, true, length, IfOk};
+ghost use Rattle.std.specs.Prelude.{ℕ, List as Seq, ◌≡◌, ◌≤◌, true, length, IfOk};
 ghost use Rattle.cx_base.specs.Limits.{limits_allowed};
 ghost use Rattle.cx_base.specs.Only.{IsOnly};
+ghost use Rattle.cx_tokens.specs.Reached.{Answers};
 ghost use Rattle.cx_unit_parser.specs.Parsing.{EndsInEnd};
 ghost use Rattle.cx_unit.specs.Verdict.{IsVerdict, IsVerdictFrom, RefusedBy, StoppedBy, source_too_long};
 
@@ -66,6 +67,23 @@ fn refused_by(answer: LexAnswer) -> Result<Verdict, Memory>
     }
 }
 
+/// The one verdict under these limits on a source of at most 4,194,304 bytes of which a lexer answers this: its first
+/// lexical fault, or the verdict of its tokens.
+pub fn verdict_of_lexed(
+    alloc: Global,
+    lexed: Result<List<Token>, LexAnswer>,
+    limits: Limits,
+) -> Result<Verdict, Memory>
+    requires lexed { (bytes : Seq ℕ) × (length bytes ≤ 4_194_304) × Answers bytes lexed }
+    requires allowed { limits_allowed limits ≡ true }
+    ensures { (bytes : Seq ℕ) → length bytes ≤ 4_194_304 → Answers bytes lexed → IfOk result (IsOnly (IsVerdict limits bytes)) }
+{
+    match lexed {
+        Ok(tokens) => run_unit(alloc, &tokens, limits),
+        Err(answer) => refused_by(answer),
+    }
+}
+
 /// The one verdict under these limits on a source of these bytes, which are at most 4,194,304: its first lexical fault,
 /// or the verdict of its tokens.
 pub fn verdict_on(alloc: Global, bytes: &[u8], limits: Limits) -> Result<Verdict, Memory>
@@ -73,8 +91,5 @@ pub fn verdict_on(alloc: Global, bytes: &[u8], limits: Limits) -> Result<Verdict
     requires allowed { limits_allowed limits ≡ true }
     ensures { IfOk result (IsOnly (IsVerdict limits bytes.now)) }
 {
-    match lex(alloc, bytes) {
-        Ok(tokens) => run_unit(alloc, &tokens, limits),
-        Err(answer) => refused_by(answer),
-    }
+    verdict_of_lexed(alloc, lex(alloc, bytes), limits)
 }

@@ -1,3 +1,4 @@
+mod fed;
 mod names;
 mod shared;
 mod tokens;
