@@ -1,7 +1,8 @@
-//! Calls the calls on types and classes, and tells what they answered, a line a call.
+//! Calls the calls on types, classes and derived classes, and tells what they answered, a line a call.
 #![tactic(auto)]
 
 mod classes;
+mod derived;
 mod make;
 mod stop;
 mod types;
@@ -12,7 +13,8 @@ use stop::Stop;
 
 fn tell<W: Write>(alloc: Global, out: &mut W) -> Result<(), Stop> {
     types::tell(alloc, out)?;
-    classes::tell(alloc, out)
+    classes::tell(alloc, out)?;
+    derived::tell(alloc, out)
 }
 
 fn main(rt: HostRuntime) -> io::Result<()> {
