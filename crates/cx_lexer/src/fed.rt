@@ -22,8 +22,10 @@ pub struct Lexer {
     here: Here,
     // The bytes behind `here`.
     front: Vec<u8>,
-    // A run that isn't closed is read anew only where it has so many bytes, twice as many as at the last time.
+    // A run that isn't closed is read anew only where it has so many bytes, twice as many as at the last time, and where a
+    // byte came that may end it.
     wait: usize,
+    ending: bool,
     count: usize,
     ended: Option<LexAnswer>,
 }
@@ -47,6 +49,24 @@ fn put(bytes: &mut Vec<u8>, piece: &[u8]) -> Result<(), Memory>
         Ok(()) => Ok(()),
         Err(_) => Err(Memory),
     }
+}
+
+// So many bytes behind a run tell that it ends there.
+const AHEAD: usize = 3;
+
+// Whether the run at the front may have ended since it had so many bytes: an open comment or string literal only behind its
+// last character, or a new line ([lex.comment], [lex.string]).
+fn may_end(front: &[u8], before: usize) -> bool {
+    let last: &[u8] = match front {
+        [b'/', b'*', ..] => b"/",
+        [b'/', b'/', ..] => b"\n",
+        [b'"', ..] => b"\"\n",
+        _ => return true,
+    };
+    let told = before.saturating_sub(AHEAD)..front.len().saturating_sub(AHEAD);
+    front
+        .get(told)
+        .is_some_and(|bytes| bytes.iter().any(|byte| last.contains(byte)))
 }
 
 // Leaves what stands from a place on.
@@ -93,6 +113,7 @@ impl Lexer {
                 here: start(),
                 front,
                 wait: 0,
+                ending: false,
                 count: 0,
                 ended: None,
             }),
@@ -112,6 +133,7 @@ impl Lexer {
             here,
             front,
             wait: _,
+            ending: _,
             count: _,
             ended,
         } = self;
@@ -136,6 +158,7 @@ impl Feed for Lexer {
             Some(LexAnswer::Memory) => return Err(Memory),
             None => {}
         }
+        let before = self.front.len();
         match put(&mut self.front, piece) {
             Ok(()) => {}
             Err(Memory) => {
@@ -143,9 +166,11 @@ impl Feed for Lexer {
                 return Err(Memory);
             }
         }
-        if self.front.len() < self.wait {
+        self.ending |= may_end(self.front.as_slice(), before);
+        if !self.ending || self.front.len() < self.wait {
             return Ok(());
         }
+        self.ending = false;
         match go_on(self.alloc, &mut self.tokens, &mut self.front, self.here) {
             Ok(next) => {
                 self.here = next;

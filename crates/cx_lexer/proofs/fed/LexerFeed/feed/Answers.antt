@@ -9,8 +9,8 @@ returns-in-Some-Fault-clause-bytes c bytes h =
     let s = c.self.inside in
     knows_more s.ended c.in-Some-Fault.field-0 bytes c.args.piece.now s.tokens s.here s.front.items c.in-Some-Fault.is (subst (λ x. Holds x bytes) (sym c.self.view_is) h)
 
-pub returns-then-len-self-clause-bytes : goal.returns-then-len-self-clause-bytes
-returns-then-len-self-clause-bytes c bytes h =
+pub returns-then-not-self-clause-bytes : goal.returns-then-not-self-clause-bytes
+returns-then-not-self-clause-bytes c bytes h =
     let s = c.self.inside in
     let b = knows_none s.ended bytes s.tokens s.here s.front.items c.in-None.is (subst (λ x. Holds x bytes) (sym c.self.view_is) h) in
     knows_behind s.ended (bytes ++ c.args.piece.now) s.tokens s.here c.put.new.bytes.items c.in-None.is
