@@ -182,6 +182,15 @@ impl Layouts {
         &self.descriptors[desc as usize]
     }
 
+    /// The nodes of a descriptor.
+    pub fn columns(&self, desc: u32) -> &Columns
+        requires known { desc < length self.now }
+        ensures form { columns_form result.now ≡ form_at self.now desc }
+        ensures table { IsTable result.now }
+    {
+        &self.descriptor(desc).columns
+    }
+
     /// The place of a member ([expr.ref]): exactly where the mark stands `PastEnd`. It takes no memory, and the same time
     /// whatever the number of members and of nodes before it.
     pub fn field(&self, desc: u32, at: Place, index: u32) -> Result<Place, Rule>

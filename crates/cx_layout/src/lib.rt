@@ -10,5 +10,6 @@ mod place;
 mod steps;
 mod walk;
 
+pub use columns::{ClassParts, Columns, Kind, Node, Under};
 pub use layouts::Layouts;
 pub use place::Place;

@@ -11,7 +11,7 @@ use cx_types::Step;
 
 impl Columns {
     /// A node.
-    pub(crate) fn node(&self, n: u32) -> Node
+    pub fn node(&self, n: u32) -> Node
         requires { n < length self.now.nodes.items }
         ensures { slice_get self.now.nodes.items n ≡ Some result }
     {

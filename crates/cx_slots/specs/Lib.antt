@@ -1,0 +1,4 @@
+pub mod Slots
+pub mod Flat
+pub mod Fresh
+pub mod Frames
