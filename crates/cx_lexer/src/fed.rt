@@ -57,16 +57,16 @@ const AHEAD: usize = 3;
 // Whether the run at the front may have ended since it had so many bytes: an open comment or string literal only behind its
 // last character, or a new line ([lex.comment], [lex.string]).
 fn may_end(front: &[u8], before: usize) -> bool {
-    let last: &[u8] = match front {
-        [b'/', b'*', ..] => b"/",
-        [b'/', b'/', ..] => b"\n",
-        [b'"', ..] => b"\"\n",
-        _ => return true,
-    };
     let told = before.saturating_sub(AHEAD)..front.len().saturating_sub(AHEAD);
-    front
-        .get(told)
-        .is_some_and(|bytes| bytes.iter().any(|byte| last.contains(byte)))
+    let Some(told) = front.get(told) else {
+        return true;
+    };
+    match front {
+        [b'/', b'*', ..] => told.contains(&b'/'),
+        [b'/', b'/', ..] => told.contains(&b'\n'),
+        [b'"', ..] => told.contains(&b'"') || told.contains(&b'\n'),
+        _ => true,
+    }
 }
 
 // Leaves what stands from a place on.
