@@ -2,9 +2,6 @@
 use Rattle.std.proofs.Common.{◌≡◌, ℕ, zero, suc, ◌-◌, ◌≤◌, true, not, List, refl, ap, subst, arith, nat_eq, nat_lt, ◌<◌, Result, ◌≢◌}
 use Rattle.std.proofs.lemmas.Bool.Decides.{nat_tests}
 use Rattle.cx_syntax.specs.declared.lexeme.Lexeme.{Lexeme}
-use Rattle.cx_tree.specs.declared.exprs.Expr.{Expr}
-use Rattle.cx_tree.specs.declared.exprs.Braces.{Braces}
-use Rattle.cx_syntax.specs.Values.{Operand}
 use Rattle.cx_grammar.specs.declared.stop.ParseStop.{ParseStop}
 use Rattle.cx_grammar.specs.Reading.{Reader}
 use Rattle.cx_grammar.specs.Reads.{Reads}

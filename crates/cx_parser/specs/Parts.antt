@@ -3,28 +3,22 @@ use Rattle.std.specs.Prelude.{ℕ, Bool, List, [], ◌∷◌, map, Option}
 use Rattle.cx_tree.specs.declared.exprs.Expr.{Expr}
 use Rattle.cx_tree.specs.declared.exprs.Clause.{Clause}
 use Rattle.cx_tree.specs.declared.exprs.Given.{Given}
-use Rattle.cx_tree.specs.declared.exprs.More.{More}
 use Rattle.cx_tree.specs.declared.exprs.Operation.{Operation}
 use Rattle.cx_syntax.specs.declared.parts.Tail.{Tail}
-use Rattle.cx_grammar.specs.Language.{joined}
 use Rattle.cx_base.specs.declared.diag.Span.{Span}
 use Rattle.cx_tree.specs.declared.exprs.ExprKind.{ExprKind}
 use Rattle.cx_tree.specs.declared.exprs.ExprKind.TheVariants as e
 use Rattle.cx_tree.specs.declared.exprs.MoreKind.{MoreKind}
-use Rattle.cx_tree.specs.declared.exprs.New.{New}
 use Rattle.cx_syntax.specs.declared.parts.MemberPart.{MemberPart}
 use Rattle.cx_syntax.specs.declared.parts.MemberPart.TheVariants as part
-use Rattle.cx_grammar.specs.Exact.{Outcome}
-use Rattle.cx_syntax.specs.declared.class.Class.{Class}
 use Rattle.cx_syntax.specs.declared.class.Class.TheVariants as k
 use Rattle.cx_syntax.specs.declared.lexeme.Lexeme.{Lexeme}
 use Rattle.cx_grammar.specs.Sets.{of}
-use Rattle.cx_grammar.specs.Reading.{Reader, token, the, maybe_if, many_of, made, guarded, ◌<$>◌, ◌>>◌, ◌⊳◌, ◌⊲◌}
+use Rattle.cx_grammar.specs.Reading.{Reader, token, the, maybe_if, made, guarded, ◌<$>◌, ◌>>◌, ◌⊳◌, ◌⊲◌}
 use Rattle.cx_syntax.specs.Classes.{class_at, is}
-use Rattle.cx_syntax.specs.Sets.{is_string, starts_assign, starts_clause, starts_given, starts_tail, starts_more, is_reach}
-use Rattle.cx_syntax.specs.Values.{pick, Turn, Operand, operation_of, last_open, name_of, member_of, reach_of, new_of, expr_of}
+use Rattle.cx_syntax.specs.Sets.{starts_assign, starts_clause, starts_given, starts_tail, is_reach}
+use Rattle.cx_syntax.specs.Values.{pick, Turn, Operand, operation_of, last_open, name_of, member_of, reach_of, expr_of}
 use Rattle.cx_syntax.specs.Readers as r
-use Rattle.cx_parser_names.specs.Parts.{piece}
 
 -- arguments, perhaps none
 abbrev pub maybe_args : r.Readers → Reader Lexeme (Option (List Expr))
@@ -33,10 +27,6 @@ maybe_args d = maybe_if (of class_at starts_assign) (r.args d)
 -- clauses, perhaps none
 abbrev pub maybe_clauses : r.Readers → Reader Lexeme (Option (List Clause))
 maybe_clauses d = maybe_if (of class_at starts_clause) (r.clauses_in d)
-
--- strings, at least one
-abbrev pub pieces : Reader Lexeme (List (List ℕ))
-pieces = joined <$> (piece >> many_of (of class_at is_string) piece)
 
 -- the type or the expression of a `new` in brackets, if it is there
 abbrev pub maybe_bound : r.Readers → Reader Lexeme (Option Expr)
@@ -60,14 +50,6 @@ maybe_thrown d = maybe_if (of class_at starts_assign) (guarded d.room d.assign)
 -- `[]`, if it is there
 abbrev pub maybe_brackets : Reader Lexeme (Option (Unit {0}))
 maybe_brackets = maybe_if (is k.OpenBracket) (is k.OpenBracket ⊳ the (is k.CloseBracket))
-
--- what stands behind a head
-abbrev pub mores : r.Readers → Reader Lexeme (List More)
-mores d = many_of (of class_at starts_more) (r.more d)
-
--- the expressions behind the first
-abbrev pub others : r.Readers → Reader Lexeme (List Expr)
-others d = many_of (is k.Comma) (r.other d)
 
 -- what turns of a chain give, and whether the last operand ends in the type of a `new`
 abbrev pub operations : Bool → List Turn → List Operation × Bool

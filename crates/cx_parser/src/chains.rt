@@ -2,19 +2,17 @@
 
 ghost use Rattle.std.specs.Prelude.{◌≡◌, IfOk};
 ghost use Rattle.cx_grammar.specs.Reads.{Reads};
-ghost use Rattle.cx_parser.specs.Below.{Below};
 ghost use Rattle.cx_parser.specs.Parts as parts;
 ghost use Rattle.cx_syntax.specs.Readers as spec;
-ghost use Rattle.cx_syntax.specs.Values as values;
 ghost use Rattle.cx_syntax.specs.Readers.{deeper};
 
-use crate::grammar::Grammar;
+use crate::grammar::{Deeper, Grammar};
 use crate::heads::node;
 use cx_ahead::Allowed;
 use cx_base::{List, Span};
 use cx_grammar::{Cursor, ParseStop};
 use cx_syntax::{Lexeme, span_of};
-use cx_tree::{Braces, Expr, ExprKind, Operation};
+use cx_tree::{Expr, ExprKind, Operation};
 use sqlite_items::Boxed;
 use std::alloc::{AllocError, Global};
 
@@ -38,14 +36,7 @@ fn chained(
     ))
 }
 
-impl<
-    E: Fn(Global, &mut Cursor<'_, Lexeme>, usize) -> Result<Boxed<Expr>, ParseStop>,
-    A: Fn(Global, &mut Cursor<'_, Lexeme>, usize) -> Result<Boxed<Expr>, ParseStop>,
-    D: Fn(Global, &mut Cursor<'_, Lexeme>, usize) -> Result<Boxed<Expr>, ParseStop>,
-    C: Fn(Global, &mut Cursor<'_, Lexeme>, usize) -> Result<(Boxed<Expr>, bool), ParseStop>,
-    U: Fn(Global, &mut Cursor<'_, Lexeme>, usize) -> Result<(Boxed<Expr>, bool), ParseStop>,
-    B: Fn(Global, &mut Cursor<'_, Lexeme>, usize) -> Result<Braces, ParseStop>,
-> Grammar<E, A, D, C, U, B> {
+impl<R: Deeper> Grammar<R> {
     #[inline(never)]
     #[cycle(chain)]
     #[tactic(auto, unfolding(cx_syntax::specs::Readers::chain))]
@@ -55,7 +46,7 @@ impl<
         level: usize,
         open_new: bool,
     ) -> Result<(List<Operation>, bool), ParseStop>
-        requires below { Below self.now.left (E.pre self.now.expr) (E.post self.now.expr) (A.pre self.now.assign) (A.post self.now.assign) (D.pre self.now.cond) (D.post self.now.cond) (C.pre self.now.cast) (C.post self.now.cast) (U.pre self.now.unary) (U.post self.now.unary) (B.pre self.now.braces) (B.post self.now.braces) }
+        requires ready { R.ready self.now.rules self.now.left }
         ensures { Reads (parts.turned (deeper self.now.left) level open_new tokens.old) result tokens.new }
     {
         let mut found = List::new(self.alloc);
@@ -81,7 +72,7 @@ impl<
         tokens: &mut Cursor<'_, Lexeme>,
         level: usize,
     ) -> Result<(Boxed<Expr>, bool), ParseStop>
-        requires below { Below self.now.left (E.pre self.now.expr) (E.post self.now.expr) (A.pre self.now.assign) (A.post self.now.assign) (D.pre self.now.cond) (D.post self.now.cond) (C.pre self.now.cast) (C.post self.now.cast) (U.pre self.now.unary) (U.post self.now.unary) (B.pre self.now.braces) (B.post self.now.braces) }
+        requires ready { R.ready self.now.rules self.now.left }
         ensures { Reads (spec.chain (deeper self.now.left) level tokens.old) result tokens.new }
     {
         if level == 0 {

@@ -3,8 +3,6 @@
 ghost use Rattle.std.specs.Prelude.{◌≡◌, true};
 ghost use Rattle.cx_grammar.specs.Reads.{Reads};
 ghost use Rattle.cx_parser.specs.Below.{Below};
-ghost use Rattle.cx_parser.specs.Parts as parts;
-ghost use Rattle.cx_syntax.specs.Readers as spec;
 ghost use Rattle.cx_syntax.specs.Readers.{deeper};
 
 use cx_grammar::{Cursor, ParseStop};
@@ -13,27 +11,178 @@ use cx_tree::{Braces, Expr};
 use sqlite_items::Boxed;
 use std::alloc::Global;
 
-/// The rules with so many levels left, over those one level deeper.
+/// The rules one level deeper than so many levels left.
+pub trait Deeper {
+    ghost use Rattle.std.specs.Prelude.{ℕ};
+
+    ghost ready: { Self → ℕ → Type 0 };
+
+    /// An expression.
+    fn expr(
+        &self,
+        alloc: Global,
+        tokens: &mut Cursor<'_, Lexeme>,
+        left: usize,
+    ) -> Result<Boxed<Expr>, ParseStop>
+        requires ready { ready self.now left }
+        requires room { (deeper left).room ≡ true }
+        ensures { Reads ((deeper left).expr tokens.old) result tokens.new };
+
+    /// An assignment expression.
+    fn assign(
+        &self,
+        alloc: Global,
+        tokens: &mut Cursor<'_, Lexeme>,
+        left: usize,
+    ) -> Result<Boxed<Expr>, ParseStop>
+        requires ready { ready self.now left }
+        requires room { (deeper left).room ≡ true }
+        ensures { Reads ((deeper left).assign tokens.old) result tokens.new };
+
+    /// A conditional expression.
+    fn cond(
+        &self,
+        alloc: Global,
+        tokens: &mut Cursor<'_, Lexeme>,
+        left: usize,
+    ) -> Result<Boxed<Expr>, ParseStop>
+        requires ready { ready self.now left }
+        requires room { (deeper left).room ≡ true }
+        ensures { Reads ((deeper left).cond tokens.old) result tokens.new };
+
+    /// A cast.
+    fn cast(
+        &self,
+        alloc: Global,
+        tokens: &mut Cursor<'_, Lexeme>,
+        left: usize,
+    ) -> Result<(Boxed<Expr>, bool), ParseStop>
+        requires ready { ready self.now left }
+        requires room { (deeper left).room ≡ true }
+        ensures { Reads ((deeper left).cast tokens.old) result tokens.new };
+
+    /// An operand.
+    fn unary(
+        &self,
+        alloc: Global,
+        tokens: &mut Cursor<'_, Lexeme>,
+        left: usize,
+    ) -> Result<(Boxed<Expr>, bool), ParseStop>
+        requires ready { ready self.now left }
+        requires room { (deeper left).room ≡ true }
+        ensures { Reads ((deeper left).unary tokens.old) result tokens.new };
+
+    /// Clauses in braces.
+    fn braces(
+        &self,
+        alloc: Global,
+        tokens: &mut Cursor<'_, Lexeme>,
+        left: usize,
+    ) -> Result<Braces, ParseStop>
+        requires ready { ready self.now left }
+        requires room { (deeper left).room ≡ true }
+        ensures { Reads ((deeper left).braces tokens.old) result tokens.new };
+}
+
+/// A rule for an expression.
 #[derive(Clone, Copy)]
-pub struct Grammar<E, A, D, C, U, B> {
-    pub alloc: Global,
-    pub left: usize,
+pub enum ExprRule {
+    Expr,
+    Assign,
+    Cond,
+}
+
+/// A rule for an operand.
+#[derive(Clone, Copy)]
+pub enum OperandRule {
+    Cast,
+    Unary,
+}
+
+/// The rules as functions, each called with one level less.
+#[derive(Drop)]
+pub struct Functions<E, O, B> {
     pub expr: E,
-    pub assign: A,
-    pub cond: D,
-    pub cast: C,
-    pub unary: U,
+    pub operand: O,
     pub braces: B,
 }
 
 impl<
-    E: Fn(Global, &mut Cursor<'_, Lexeme>, usize) -> Result<Boxed<Expr>, ParseStop>,
-    A: Fn(Global, &mut Cursor<'_, Lexeme>, usize) -> Result<Boxed<Expr>, ParseStop>,
-    D: Fn(Global, &mut Cursor<'_, Lexeme>, usize) -> Result<Boxed<Expr>, ParseStop>,
-    C: Fn(Global, &mut Cursor<'_, Lexeme>, usize) -> Result<(Boxed<Expr>, bool), ParseStop>,
-    U: Fn(Global, &mut Cursor<'_, Lexeme>, usize) -> Result<(Boxed<Expr>, bool), ParseStop>,
+    E: Fn(Global, &mut Cursor<'_, Lexeme>, usize, ExprRule) -> Result<Boxed<Expr>, ParseStop>,
+    O: Fn(
+        Global,
+        &mut Cursor<'_, Lexeme>,
+        usize,
+        OperandRule,
+    ) -> Result<(Boxed<Expr>, bool), ParseStop>,
     B: Fn(Global, &mut Cursor<'_, Lexeme>, usize) -> Result<Braces, ParseStop>,
-> Grammar<E, A, D, C, U, B> {
+> Deeper for Functions<E, O, B> {
+    ghost ready = { λ s left. Below left (E.pre s.expr) (E.post s.expr) (O.pre s.operand) (O.post s.operand) (B.pre s.braces) (B.post s.braces) };
+
+    fn expr(
+        &self,
+        alloc: Global,
+        tokens: &mut Cursor<'_, Lexeme>,
+        left: usize,
+    ) -> Result<Boxed<Expr>, ParseStop> {
+        (self.expr)(alloc, tokens, left - 1, ExprRule::Expr)
+    }
+
+    fn assign(
+        &self,
+        alloc: Global,
+        tokens: &mut Cursor<'_, Lexeme>,
+        left: usize,
+    ) -> Result<Boxed<Expr>, ParseStop> {
+        (self.expr)(alloc, tokens, left - 1, ExprRule::Assign)
+    }
+
+    fn cond(
+        &self,
+        alloc: Global,
+        tokens: &mut Cursor<'_, Lexeme>,
+        left: usize,
+    ) -> Result<Boxed<Expr>, ParseStop> {
+        (self.expr)(alloc, tokens, left - 1, ExprRule::Cond)
+    }
+
+    fn cast(
+        &self,
+        alloc: Global,
+        tokens: &mut Cursor<'_, Lexeme>,
+        left: usize,
+    ) -> Result<(Boxed<Expr>, bool), ParseStop> {
+        (self.operand)(alloc, tokens, left - 1, OperandRule::Cast)
+    }
+
+    fn unary(
+        &self,
+        alloc: Global,
+        tokens: &mut Cursor<'_, Lexeme>,
+        left: usize,
+    ) -> Result<(Boxed<Expr>, bool), ParseStop> {
+        (self.operand)(alloc, tokens, left - 1, OperandRule::Unary)
+    }
+
+    fn braces(
+        &self,
+        alloc: Global,
+        tokens: &mut Cursor<'_, Lexeme>,
+        left: usize,
+    ) -> Result<Braces, ParseStop> {
+        (self.braces)(alloc, tokens, left - 1)
+    }
+}
+
+/// The rules with so many levels left, over those one level deeper.
+#[derive(Drop)]
+pub struct Grammar<R> {
+    pub alloc: Global,
+    pub left: usize,
+    pub rules: R,
+}
+
+impl<R: Deeper> Grammar<R> {
     /// Whether there is a level deeper.
     pub fn room(&self) -> bool
         ensures { result ≡ (deeper self.now.left).room }
@@ -46,66 +195,5 @@ impl<
         ensures { result ≡ (deeper self.now.left).room_for_two }
     {
         self.left > 1
-    }
-
-    /// The rules one level deeper.
-    #[inline(never)]
-    pub fn expr_below(&self, tokens: &mut Cursor<'_, Lexeme>) -> Result<Boxed<Expr>, ParseStop>
-        requires room { (deeper self.now.left).room ≡ true }
-        requires below { Below self.now.left (E.pre self.now.expr) (E.post self.now.expr) (A.pre self.now.assign) (A.post self.now.assign) (D.pre self.now.cond) (D.post self.now.cond) (C.pre self.now.cast) (C.post self.now.cast) (U.pre self.now.unary) (U.post self.now.unary) (B.pre self.now.braces) (B.post self.now.braces) }
-        ensures { Reads ((deeper self.now.left).expr tokens.old) result tokens.new }
-    {
-        (self.expr)(self.alloc, tokens, self.left - 1)
-    }
-
-    #[inline(never)]
-    pub fn assign_below(&self, tokens: &mut Cursor<'_, Lexeme>) -> Result<Boxed<Expr>, ParseStop>
-        requires room { (deeper self.now.left).room ≡ true }
-        requires below { Below self.now.left (E.pre self.now.expr) (E.post self.now.expr) (A.pre self.now.assign) (A.post self.now.assign) (D.pre self.now.cond) (D.post self.now.cond) (C.pre self.now.cast) (C.post self.now.cast) (U.pre self.now.unary) (U.post self.now.unary) (B.pre self.now.braces) (B.post self.now.braces) }
-        ensures { Reads ((deeper self.now.left).assign tokens.old) result tokens.new }
-    {
-        (self.assign)(self.alloc, tokens, self.left - 1)
-    }
-
-    #[inline(never)]
-    pub fn cond_below(&self, tokens: &mut Cursor<'_, Lexeme>) -> Result<Boxed<Expr>, ParseStop>
-        requires room { (deeper self.now.left).room ≡ true }
-        requires below { Below self.now.left (E.pre self.now.expr) (E.post self.now.expr) (A.pre self.now.assign) (A.post self.now.assign) (D.pre self.now.cond) (D.post self.now.cond) (C.pre self.now.cast) (C.post self.now.cast) (U.pre self.now.unary) (U.post self.now.unary) (B.pre self.now.braces) (B.post self.now.braces) }
-        ensures { Reads ((deeper self.now.left).cond tokens.old) result tokens.new }
-    {
-        (self.cond)(self.alloc, tokens, self.left - 1)
-    }
-
-    #[inline(never)]
-    pub fn cast_below(
-        &self,
-        tokens: &mut Cursor<'_, Lexeme>,
-    ) -> Result<(Boxed<Expr>, bool), ParseStop>
-        requires room { (deeper self.now.left).room ≡ true }
-        requires below { Below self.now.left (E.pre self.now.expr) (E.post self.now.expr) (A.pre self.now.assign) (A.post self.now.assign) (D.pre self.now.cond) (D.post self.now.cond) (C.pre self.now.cast) (C.post self.now.cast) (U.pre self.now.unary) (U.post self.now.unary) (B.pre self.now.braces) (B.post self.now.braces) }
-        ensures { Reads ((deeper self.now.left).cast tokens.old) result tokens.new }
-    {
-        (self.cast)(self.alloc, tokens, self.left - 1)
-    }
-
-    #[inline(never)]
-    pub fn unary_below(
-        &self,
-        tokens: &mut Cursor<'_, Lexeme>,
-    ) -> Result<(Boxed<Expr>, bool), ParseStop>
-        requires room { (deeper self.now.left).room ≡ true }
-        requires below { Below self.now.left (E.pre self.now.expr) (E.post self.now.expr) (A.pre self.now.assign) (A.post self.now.assign) (D.pre self.now.cond) (D.post self.now.cond) (C.pre self.now.cast) (C.post self.now.cast) (U.pre self.now.unary) (U.post self.now.unary) (B.pre self.now.braces) (B.post self.now.braces) }
-        ensures { Reads ((deeper self.now.left).unary tokens.old) result tokens.new }
-    {
-        (self.unary)(self.alloc, tokens, self.left - 1)
-    }
-
-    #[inline(never)]
-    pub fn braces_below(&self, tokens: &mut Cursor<'_, Lexeme>) -> Result<Braces, ParseStop>
-        requires room { (deeper self.now.left).room ≡ true }
-        requires below { Below self.now.left (E.pre self.now.expr) (E.post self.now.expr) (A.pre self.now.assign) (A.post self.now.assign) (D.pre self.now.cond) (D.post self.now.cond) (C.pre self.now.cast) (C.post self.now.cast) (U.pre self.now.unary) (U.post self.now.unary) (B.pre self.now.braces) (B.post self.now.braces) }
-        ensures { Reads ((deeper self.now.left).braces tokens.old) result tokens.new }
-    {
-        (self.braces)(self.alloc, tokens, self.left - 1)
     }
 }

@@ -1,15 +1,15 @@
 //! The rules with so many levels left.
 
-ghost use Rattle.std.specs.Prelude.{◌≡◌};
 ghost use Rattle.cx_grammar.specs.Answers.{Begins};
 ghost use Rattle.cx_grammar.specs.Reads.{Reads};
+ghost use Rattle.cx_parser.specs.Below.{operand_reader_of, reader_of};
 ghost use Rattle.cx_syntax.specs.Goes.{goes_args, goes_assign};
 ghost use Rattle.cx_syntax.specs.Readers as spec;
 ghost use Rattle.cx_syntax.specs.Readers.{deeper};
 ghost use Rattle.cx_syntax.specs.Symbols as symbols;
 ghost use Rattle.cx_syntax.specs.Symbols.{after, nothing};
 
-use crate::grammar::Grammar;
+use crate::grammar::{ExprRule, Functions, Grammar, OperandRule};
 use cx_base::List;
 use cx_grammar::{Cursor, ParseStop};
 use cx_syntax::Lexeme;
@@ -26,12 +26,11 @@ macro_rules! rules {
         Grammar {
             alloc: $alloc,
             left: $left,
-            expr: expr_within,
-            assign: assign_within,
-            cond: cond_within,
-            cast: cast_within,
-            unary: unary_within,
-            braces: braces_within,
+            rules: Functions {
+                expr: expr_within,
+                operand: operand_within,
+                braces: braces_within,
+            },
         }
     };
 }
@@ -41,54 +40,32 @@ fn expr_within(
     alloc: Global,
     tokens: &mut Cursor<'_, Lexeme>,
     left: usize,
+    rule: ExprRule,
 ) -> Result<Boxed<Expr>, ParseStop>
-    ensures { Reads (spec.expr (deeper left) tokens.old) result tokens.new }
+    ensures { Reads (reader_of rule (deeper left) tokens.old) result tokens.new }
 {
-    rules!(alloc, left).expr(tokens)
+    let grammar = rules!(alloc, left);
+    match rule {
+        ExprRule::Expr => grammar.expr(tokens),
+        ExprRule::Assign => grammar.assign(tokens),
+        ExprRule::Cond => grammar.cond(tokens),
+    }
 }
 
 #[cycle(levels)]
-fn assign_within(
+fn operand_within(
     alloc: Global,
     tokens: &mut Cursor<'_, Lexeme>,
     left: usize,
-) -> Result<Boxed<Expr>, ParseStop>
-    ensures { Reads (spec.assign (deeper left) tokens.old) result tokens.new }
-{
-    rules!(alloc, left).assign(tokens)
-}
-
-#[cycle(levels)]
-fn cond_within(
-    alloc: Global,
-    tokens: &mut Cursor<'_, Lexeme>,
-    left: usize,
-) -> Result<Boxed<Expr>, ParseStop>
-    ensures { Reads (spec.cond (deeper left) tokens.old) result tokens.new }
-{
-    rules!(alloc, left).cond(tokens)
-}
-
-#[cycle(levels)]
-fn cast_within(
-    alloc: Global,
-    tokens: &mut Cursor<'_, Lexeme>,
-    left: usize,
+    rule: OperandRule,
 ) -> Result<(Boxed<Expr>, bool), ParseStop>
-    ensures { Reads (spec.cast (deeper left) tokens.old) result tokens.new }
+    ensures { Reads (operand_reader_of rule (deeper left) tokens.old) result tokens.new }
 {
-    rules!(alloc, left).cast(tokens)
-}
-
-#[cycle(levels)]
-fn unary_within(
-    alloc: Global,
-    tokens: &mut Cursor<'_, Lexeme>,
-    left: usize,
-) -> Result<(Boxed<Expr>, bool), ParseStop>
-    ensures { Reads (spec.unary (deeper left) tokens.old) result tokens.new }
-{
-    rules!(alloc, left).unary(tokens)
+    let grammar = rules!(alloc, left);
+    match rule {
+        OperandRule::Cast => grammar.cast(tokens),
+        OperandRule::Unary => grammar.unary(tokens),
+    }
 }
 
 #[cycle(levels)]
@@ -111,7 +88,7 @@ pub fn expr(
     ensures reads { Reads (spec.expr (deeper left) tokens.old) result tokens.new }
     ensures begins { Begins symbols.expr (after goes_args) left tokens.old result tokens.new }
 {
-    expr_within(alloc, tokens, left)
+    expr_within(alloc, tokens, left, ExprRule::Expr)
 }
 
 /// An assignment expression ([expr.ass]) with so many levels left: the one tree of the tokens that it takes, or the first token with which they are the front of none.
@@ -123,7 +100,7 @@ pub fn assign(
     ensures reads { Reads (spec.assign (deeper left) tokens.old) result tokens.new }
     ensures begins { Begins symbols.assign (after goes_assign) left tokens.old result tokens.new }
 {
-    assign_within(alloc, tokens, left)
+    expr_within(alloc, tokens, left, ExprRule::Assign)
 }
 
 /// A conditional expression ([expr.cond]) with so many levels left: the one tree of the tokens that it takes, or the first token with which they are the front of none.
@@ -135,7 +112,7 @@ pub fn cond(
     ensures reads { Reads (spec.cond (deeper left) tokens.old) result tokens.new }
     ensures begins { Begins symbols.cond (after goes_assign) left tokens.old result tokens.new }
 {
-    cond_within(alloc, tokens, left)
+    expr_within(alloc, tokens, left, ExprRule::Cond)
 }
 
 /// Clauses in braces ([dcl.init.list]) with so many levels left: the one tree of the tokens that it takes, or the first token with which they are the front of none.

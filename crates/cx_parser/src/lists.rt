@@ -2,12 +2,11 @@
 
 ghost use Rattle.std.specs.Prelude.{◌≡◌, true};
 ghost use Rattle.cx_grammar.specs.Reads.{Reads};
-ghost use Rattle.cx_parser.specs.Below.{Below};
 ghost use Rattle.cx_parser.specs.Parts as parts;
 ghost use Rattle.cx_syntax.specs.Readers as spec;
 ghost use Rattle.cx_syntax.specs.Readers.{deeper};
 
-use crate::grammar::Grammar;
+use crate::grammar::{Deeper, Grammar};
 use cx_ahead::{StartsAssign, StartsClause, StartsUnary};
 use cx_base::List;
 use cx_grammar::{Cursor, ParseStop, Part, read_others, read_upto};
@@ -17,17 +16,10 @@ use cx_tree::{Args, Bound, Braces, Clause, Expr, Given, TypeId};
 use sqlite_items::Boxed;
 use std::alloc::Global;
 
-impl<
-    E: Fn(Global, &mut Cursor<'_, Lexeme>, usize) -> Result<Boxed<Expr>, ParseStop>,
-    A: Fn(Global, &mut Cursor<'_, Lexeme>, usize) -> Result<Boxed<Expr>, ParseStop>,
-    D: Fn(Global, &mut Cursor<'_, Lexeme>, usize) -> Result<Boxed<Expr>, ParseStop>,
-    C: Fn(Global, &mut Cursor<'_, Lexeme>, usize) -> Result<(Boxed<Expr>, bool), ParseStop>,
-    U: Fn(Global, &mut Cursor<'_, Lexeme>, usize) -> Result<(Boxed<Expr>, bool), ParseStop>,
-    B: Fn(Global, &mut Cursor<'_, Lexeme>, usize) -> Result<Braces, ParseStop>,
-> Grammar<E, A, D, C, U, B> {
+impl<R: Deeper> Grammar<R> {
     #[inline(never)]
     fn bound_size(&self, tokens: &mut Cursor<'_, Lexeme>) -> Result<Option<Boxed<Expr>>, ParseStop>
-        requires below { Below self.now.left (E.pre self.now.expr) (E.post self.now.expr) (A.pre self.now.assign) (A.post self.now.assign) (D.pre self.now.cond) (D.post self.now.cond) (C.pre self.now.cast) (C.post self.now.cast) (U.pre self.now.unary) (U.post self.now.unary) (B.pre self.now.braces) (B.post self.now.braces) }
+        requires ready { R.ready self.now.rules self.now.left }
         ensures { Reads (spec.bound_size (deeper self.now.left) tokens.old) result tokens.new }
     {
         if !tokens.sees(&StartsUnary) {
@@ -36,29 +28,13 @@ impl<
         if !self.room() {
             return Err(tokens.too_deep());
         }
-        Ok(Some(self.cond_below(tokens)?))
-    }
-
-    #[inline(never)]
-    #[tactic(auto, unfolding(cx_syntax::specs::Readers::bound))]
-    fn bound(&self, tokens: &mut Cursor<'_, Lexeme>) -> Result<Bound, ParseStop>
-        requires below { Below self.now.left (E.pre self.now.expr) (E.post self.now.expr) (A.pre self.now.assign) (A.post self.now.assign) (D.pre self.now.cond) (D.post self.now.cond) (C.pre self.now.cast) (C.post self.now.cast) (U.pre self.now.unary) (U.post self.now.unary) (B.pre self.now.braces) (B.post self.now.braces) }
-        ensures { Reads (spec.bound (deeper self.now.left) tokens.old) result tokens.new }
-    {
-        let from = tokens.rest();
-        tokens.expect(&Class::OpenBracket)?;
-        let size = self.bound_size(tokens)?;
-        tokens.expect(&Class::CloseBracket)?;
-        Ok(Bound {
-            size,
-            span: span_of(tokens.since(from)),
-        })
+        Ok(Some(self.rules.cond(self.alloc, tokens, self.left)?))
     }
 
     /// Up to 16 bounds of arrays ([dcl.array]).
     #[inline(never)]
     pub fn bounds(&self, tokens: &mut Cursor<'_, Lexeme>) -> Result<List<Bound>, ParseStop>
-        requires below { Below self.now.left (E.pre self.now.expr) (E.post self.now.expr) (A.pre self.now.assign) (A.post self.now.assign) (D.pre self.now.cond) (D.post self.now.cond) (C.pre self.now.cast) (C.post self.now.cast) (U.pre self.now.unary) (U.post self.now.unary) (B.pre self.now.braces) (B.post self.now.braces) }
+        requires ready { R.ready self.now.rules self.now.left }
         ensures { Reads (spec.bounds (deeper self.now.left) tokens.old) result tokens.new }
     {
         read_upto(
@@ -74,7 +50,7 @@ impl<
     #[inline(never)]
     #[tactic(auto, unfolding(cx_syntax::specs::Readers::typeid))]
     pub fn typeid(&self, tokens: &mut Cursor<'_, Lexeme>) -> Result<Boxed<TypeId>, ParseStop>
-        requires below { Below self.now.left (E.pre self.now.expr) (E.post self.now.expr) (A.pre self.now.assign) (A.post self.now.assign) (D.pre self.now.cond) (D.post self.now.cond) (C.pre self.now.cast) (C.post self.now.cast) (U.pre self.now.unary) (U.post self.now.unary) (B.pre self.now.braces) (B.post self.now.braces) }
+        requires ready { R.ready self.now.rules self.now.left }
         ensures { Reads (spec.typeid (deeper self.now.left) tokens.old) result tokens.new }
     {
         let from = tokens.rest();
@@ -93,7 +69,7 @@ impl<
     /// The same in parentheses.
     #[inline(never)]
     pub fn paren_typeid(&self, tokens: &mut Cursor<'_, Lexeme>) -> Result<Boxed<TypeId>, ParseStop>
-        requires below { Below self.now.left (E.pre self.now.expr) (E.post self.now.expr) (A.pre self.now.assign) (A.post self.now.assign) (D.pre self.now.cond) (D.post self.now.cond) (C.pre self.now.cast) (C.post self.now.cast) (U.pre self.now.unary) (U.post self.now.unary) (B.pre self.now.braces) (B.post self.now.braces) }
+        requires ready { R.ready self.now.rules self.now.left }
         ensures { Reads (spec.paren_typeid (deeper self.now.left) tokens.old) result tokens.new }
     {
         tokens.expect(&Class::OpenParen)?;
@@ -106,55 +82,42 @@ impl<
     #[inline(never)]
     pub fn paren_expr(&self, tokens: &mut Cursor<'_, Lexeme>) -> Result<Boxed<Expr>, ParseStop>
         requires room { (deeper self.now.left).room ≡ true }
-        requires below { Below self.now.left (E.pre self.now.expr) (E.post self.now.expr) (A.pre self.now.assign) (A.post self.now.assign) (D.pre self.now.cond) (D.post self.now.cond) (C.pre self.now.cast) (C.post self.now.cast) (U.pre self.now.unary) (U.post self.now.unary) (B.pre self.now.braces) (B.post self.now.braces) }
+        requires ready { R.ready self.now.rules self.now.left }
         ensures { Reads (spec.paren_expr (deeper self.now.left) tokens.old) result tokens.new }
     {
         tokens.expect(&Class::OpenParen)?;
-        let inner = self.expr_below(tokens)?;
+        let inner = self.rules.expr(self.alloc, tokens, self.left)?;
         tokens.expect(&Class::CloseParen)?;
         Ok(inner)
     }
 
     #[inline(never)]
-    fn other_arg(&self, tokens: &mut Cursor<'_, Lexeme>) -> Result<Expr, ParseStop>
-        requires room { (deeper self.now.left).room ≡ true }
-        requires below { Below self.now.left (E.pre self.now.expr) (E.post self.now.expr) (A.pre self.now.assign) (A.post self.now.assign) (D.pre self.now.cond) (D.post self.now.cond) (C.pre self.now.cast) (C.post self.now.cast) (U.pre self.now.unary) (U.post self.now.unary) (B.pre self.now.braces) (B.post self.now.braces) }
-        ensures { Reads (spec.other_arg (deeper self.now.left) tokens.old) result tokens.new }
-    {
-        tokens.expect(&Class::Comma)?;
-        Ok(self.assign_below(tokens)?.into_inner())
-    }
-
-    #[inline(never)]
     #[tactic(auto, unfolding(cx_syntax::specs::Readers::args))]
-    fn args(&self, tokens: &mut Cursor<'_, Lexeme>) -> Result<List<Expr>, ParseStop>
-        requires below { Below self.now.left (E.pre self.now.expr) (E.post self.now.expr) (A.pre self.now.assign) (A.post self.now.assign) (D.pre self.now.cond) (D.post self.now.cond) (C.pre self.now.cast) (C.post self.now.cast) (U.pre self.now.unary) (U.post self.now.unary) (B.pre self.now.braces) (B.post self.now.braces) }
-        ensures { Reads (spec.args (deeper self.now.left) tokens.old) result tokens.new }
-    {
-        if !self.room() {
-            return Err(tokens.too_deep());
-        }
-        let mut first = List::new(self.alloc);
-        first.push(self.assign_below(tokens)?.into_inner())?;
-        read_more(tokens, first, &Class::Comma, &OtherArg { grammar: self })
-    }
-
-    #[inline(never)]
     fn maybe_args(&self, tokens: &mut Cursor<'_, Lexeme>) -> Result<Option<List<Expr>>, ParseStop>
-        requires below { Below self.now.left (E.pre self.now.expr) (E.post self.now.expr) (A.pre self.now.assign) (A.post self.now.assign) (D.pre self.now.cond) (D.post self.now.cond) (C.pre self.now.cast) (C.post self.now.cast) (U.pre self.now.unary) (U.post self.now.unary) (B.pre self.now.braces) (B.post self.now.braces) }
+        requires ready { R.ready self.now.rules self.now.left }
         ensures { Reads (parts.maybe_args (deeper self.now.left) tokens.old) result tokens.new }
     {
         if !tokens.sees(&StartsAssign) {
             return Ok(None);
         }
-        Ok(Some(self.args(tokens)?))
+        if !self.room() {
+            return Err(tokens.too_deep());
+        }
+        let mut first = List::new(self.alloc);
+        first.push(
+            self.rules
+                .assign(self.alloc, tokens, self.left)?
+                .into_inner(),
+        )?;
+        let part = OtherArg { grammar: self };
+        Ok(Some(read_more(tokens, first, &Class::Comma, &part)?))
     }
 
     /// Arguments in parentheses ([expr.call]).
     #[inline(never)]
     #[tactic(auto, unfolding(cx_syntax::specs::Readers::paren_args))]
     pub fn paren_args(&self, tokens: &mut Cursor<'_, Lexeme>) -> Result<Args, ParseStop>
-        requires below { Below self.now.left (E.pre self.now.expr) (E.post self.now.expr) (A.pre self.now.assign) (A.post self.now.assign) (D.pre self.now.cond) (D.post self.now.cond) (C.pre self.now.cast) (C.post self.now.cast) (U.pre self.now.unary) (U.post self.now.unary) (B.pre self.now.braces) (B.post self.now.braces) }
+        requires ready { R.ready self.now.rules self.now.left }
         ensures { Reads (spec.paren_args (deeper self.now.left) tokens.old) result tokens.new }
     {
         let from = tokens.rest();
@@ -171,65 +134,46 @@ impl<
     #[tactic(auto, unfolding(cx_syntax::specs::Readers::clause))]
     fn clause(&self, tokens: &mut Cursor<'_, Lexeme>) -> Result<Clause, ParseStop>
         requires room { (deeper self.now.left).room ≡ true }
-        requires below { Below self.now.left (E.pre self.now.expr) (E.post self.now.expr) (A.pre self.now.assign) (A.post self.now.assign) (D.pre self.now.cond) (D.post self.now.cond) (C.pre self.now.cast) (C.post self.now.cast) (U.pre self.now.unary) (U.post self.now.unary) (B.pre self.now.braces) (B.post self.now.braces) }
+        requires ready { R.ready self.now.rules self.now.left }
         ensures { Reads (spec.clause (deeper self.now.left) tokens.old) result tokens.new }
     {
         if tokens.sees(&Class::OpenBrace) {
-            Ok(Clause::Braces(self.braces_below(tokens)?))
+            Ok(Clause::Braces(self.rules.braces(self.alloc, tokens, self.left)?))
         } else {
-            Ok(Clause::Expr(self.assign_below(tokens)?.into_inner()))
+            Ok(Clause::Expr(
+                self.rules
+                    .assign(self.alloc, tokens, self.left)?
+                    .into_inner(),
+            ))
         }
-    }
-
-    #[inline(never)]
-    fn other_clause(&self, tokens: &mut Cursor<'_, Lexeme>) -> Result<Clause, ParseStop>
-        requires room { (deeper self.now.left).room ≡ true }
-        requires below { Below self.now.left (E.pre self.now.expr) (E.post self.now.expr) (A.pre self.now.assign) (A.post self.now.assign) (D.pre self.now.cond) (D.post self.now.cond) (C.pre self.now.cast) (C.post self.now.cast) (U.pre self.now.unary) (U.post self.now.unary) (B.pre self.now.braces) (B.post self.now.braces) }
-        ensures { Reads (spec.other_clause (deeper self.now.left) tokens.old) result tokens.new }
-    {
-        tokens.expect(&Class::Comma)?;
-        self.clause(tokens)
     }
 
     #[inline(never)]
     #[tactic(auto, unfolding(cx_syntax::specs::Readers::clauses_in))]
-    fn clauses_in(&self, tokens: &mut Cursor<'_, Lexeme>) -> Result<List<Clause>, ParseStop>
-        requires below { Below self.now.left (E.pre self.now.expr) (E.post self.now.expr) (A.pre self.now.assign) (A.post self.now.assign) (D.pre self.now.cond) (D.post self.now.cond) (C.pre self.now.cast) (C.post self.now.cast) (U.pre self.now.unary) (U.post self.now.unary) (B.pre self.now.braces) (B.post self.now.braces) }
-        ensures { Reads (spec.clauses_in (deeper self.now.left) tokens.old) result tokens.new }
-    {
-        if !self.room() {
-            return Err(tokens.too_deep());
-        }
-        let mut first = List::new(self.alloc);
-        first.push(self.clause(tokens)?)?;
-        read_others(
-            tokens,
-            first,
-            &Class::Comma,
-            &StartsClause,
-            &OtherClause { grammar: self },
-        )
-    }
-
-    #[inline(never)]
     fn maybe_clauses(
         &self,
         tokens: &mut Cursor<'_, Lexeme>,
     ) -> Result<Option<List<Clause>>, ParseStop>
-        requires below { Below self.now.left (E.pre self.now.expr) (E.post self.now.expr) (A.pre self.now.assign) (A.post self.now.assign) (D.pre self.now.cond) (D.post self.now.cond) (C.pre self.now.cast) (C.post self.now.cast) (U.pre self.now.unary) (U.post self.now.unary) (B.pre self.now.braces) (B.post self.now.braces) }
+        requires ready { R.ready self.now.rules self.now.left }
         ensures { Reads (parts.maybe_clauses (deeper self.now.left) tokens.old) result tokens.new }
     {
         if !tokens.sees(&StartsClause) {
             return Ok(None);
         }
-        Ok(Some(self.clauses_in(tokens)?))
+        if !self.room() {
+            return Err(tokens.too_deep());
+        }
+        let mut first = List::new(self.alloc);
+        first.push(self.clause(tokens)?)?;
+        let part = OtherClause { grammar: self };
+        Ok(Some(read_others(tokens, first, &Class::Comma, &StartsClause, &part)?))
     }
 
     /// Clauses in braces ([dcl.init.list]).
     #[inline(never)]
     #[tactic(auto, unfolding(cx_syntax::specs::Readers::braces))]
     pub fn braces(&self, tokens: &mut Cursor<'_, Lexeme>) -> Result<Braces, ParseStop>
-        requires below { Below self.now.left (E.pre self.now.expr) (E.post self.now.expr) (A.pre self.now.assign) (A.post self.now.assign) (D.pre self.now.cond) (D.post self.now.cond) (C.pre self.now.cast) (C.post self.now.cast) (U.pre self.now.unary) (U.post self.now.unary) (B.pre self.now.braces) (B.post self.now.braces) }
+        requires ready { R.ready self.now.rules self.now.left }
         ensures { Reads (spec.braces (deeper self.now.left) tokens.old) result tokens.new }
     {
         let from = tokens.rest();
@@ -246,7 +190,7 @@ impl<
     #[inline(never)]
     #[tactic(auto, unfolding(cx_syntax::specs::Readers::given))]
     pub fn given(&self, tokens: &mut Cursor<'_, Lexeme>) -> Result<Given, ParseStop>
-        requires below { Below self.now.left (E.pre self.now.expr) (E.post self.now.expr) (A.pre self.now.assign) (A.post self.now.assign) (D.pre self.now.cond) (D.post self.now.cond) (C.pre self.now.cast) (C.post self.now.cast) (U.pre self.now.unary) (U.post self.now.unary) (B.pre self.now.braces) (B.post self.now.braces) }
+        requires ready { R.ready self.now.rules self.now.left }
         ensures { Reads (spec.given (deeper self.now.left) tokens.old) result tokens.new }
     {
         if tokens.sees(&Class::OpenParen) {
@@ -259,78 +203,66 @@ impl<
 
 /// As a part that a loop reads.
 #[derive(Drop)]
-struct BoundPart<'g, E, A, D, C, U, B> {
-    grammar: &'g Grammar<E, A, D, C, U, B>,
+struct BoundPart<'g, R> {
+    grammar: &'g Grammar<R>,
 }
 
-impl<
-    'g,
-    E: Fn(Global, &mut Cursor<'_, Lexeme>, usize) -> Result<Boxed<Expr>, ParseStop>,
-    A: Fn(Global, &mut Cursor<'_, Lexeme>, usize) -> Result<Boxed<Expr>, ParseStop>,
-    D: Fn(Global, &mut Cursor<'_, Lexeme>, usize) -> Result<Boxed<Expr>, ParseStop>,
-    C: Fn(Global, &mut Cursor<'_, Lexeme>, usize) -> Result<(Boxed<Expr>, bool), ParseStop>,
-    U: Fn(Global, &mut Cursor<'_, Lexeme>, usize) -> Result<(Boxed<Expr>, bool), ParseStop>,
-    B: Fn(Global, &mut Cursor<'_, Lexeme>, usize) -> Result<Braces, ParseStop>,
-> Part<Lexeme> for BoundPart<'g, E, A, D, C, U, B> {
+impl<'g, R: Deeper> Part<Lexeme> for BoundPart<'g, R> {
     type Value = Bound;
 
-    ghost ready = { λ s. Below s.grammar.now.left (E.pre s.grammar.now.expr) (E.post s.grammar.now.expr) (A.pre s.grammar.now.assign) (A.post s.grammar.now.assign) (D.pre s.grammar.now.cond) (D.post s.grammar.now.cond) (C.pre s.grammar.now.cast) (C.post s.grammar.now.cast) (U.pre s.grammar.now.unary) (U.post s.grammar.now.unary) (B.pre s.grammar.now.braces) (B.post s.grammar.now.braces) };
+    ghost ready = { λ s. R.ready s.grammar.now.rules s.grammar.now.left };
 
     ghost reader = { λ s. spec.bound (deeper s.grammar.now.left) };
 
+    #[tactic(auto, unfolding(cx_syntax::specs::Readers::bound))]
     fn read(&self, tokens: &mut Cursor<'_, Lexeme>) -> Result<Bound, ParseStop> {
-        self.grammar.bound(tokens)
+        let from = tokens.rest();
+        tokens.expect(&Class::OpenBracket)?;
+        let size = self.grammar.bound_size(tokens)?;
+        tokens.expect(&Class::CloseBracket)?;
+        Ok(Bound {
+            size,
+            span: span_of(tokens.since(from)),
+        })
     }
 }
 
 /// As a part that a loop reads.
 #[derive(Drop)]
-struct OtherArg<'g, E, A, D, C, U, B> {
-    grammar: &'g Grammar<E, A, D, C, U, B>,
+struct OtherArg<'g, R> {
+    grammar: &'g Grammar<R>,
 }
 
-impl<
-    'g,
-    E: Fn(Global, &mut Cursor<'_, Lexeme>, usize) -> Result<Boxed<Expr>, ParseStop>,
-    A: Fn(Global, &mut Cursor<'_, Lexeme>, usize) -> Result<Boxed<Expr>, ParseStop>,
-    D: Fn(Global, &mut Cursor<'_, Lexeme>, usize) -> Result<Boxed<Expr>, ParseStop>,
-    C: Fn(Global, &mut Cursor<'_, Lexeme>, usize) -> Result<(Boxed<Expr>, bool), ParseStop>,
-    U: Fn(Global, &mut Cursor<'_, Lexeme>, usize) -> Result<(Boxed<Expr>, bool), ParseStop>,
-    B: Fn(Global, &mut Cursor<'_, Lexeme>, usize) -> Result<Braces, ParseStop>,
-> Part<Lexeme> for OtherArg<'g, E, A, D, C, U, B> {
+impl<'g, R: Deeper> Part<Lexeme> for OtherArg<'g, R> {
     type Value = Expr;
 
-    ghost ready = { λ s. ((deeper s.grammar.now.left).room ≡ true) × (Below s.grammar.now.left (E.pre s.grammar.now.expr) (E.post s.grammar.now.expr) (A.pre s.grammar.now.assign) (A.post s.grammar.now.assign) (D.pre s.grammar.now.cond) (D.post s.grammar.now.cond) (C.pre s.grammar.now.cast) (C.post s.grammar.now.cast) (U.pre s.grammar.now.unary) (U.post s.grammar.now.unary) (B.pre s.grammar.now.braces) (B.post s.grammar.now.braces)) };
+    ghost ready = { λ s. ((deeper s.grammar.now.left).room ≡ true) × (R.ready s.grammar.now.rules s.grammar.now.left) };
 
     ghost reader = { λ s. spec.other_arg (deeper s.grammar.now.left) };
 
     fn read(&self, tokens: &mut Cursor<'_, Lexeme>) -> Result<Expr, ParseStop> {
-        self.grammar.other_arg(tokens)
+        tokens.expect(&Class::Comma)?;
+        let grammar = self.grammar;
+        let arg = grammar.rules.assign(grammar.alloc, tokens, grammar.left)?;
+        Ok(arg.into_inner())
     }
 }
 
 /// As a part that a loop reads.
 #[derive(Drop)]
-struct OtherClause<'g, E, A, D, C, U, B> {
-    grammar: &'g Grammar<E, A, D, C, U, B>,
+struct OtherClause<'g, R> {
+    grammar: &'g Grammar<R>,
 }
 
-impl<
-    'g,
-    E: Fn(Global, &mut Cursor<'_, Lexeme>, usize) -> Result<Boxed<Expr>, ParseStop>,
-    A: Fn(Global, &mut Cursor<'_, Lexeme>, usize) -> Result<Boxed<Expr>, ParseStop>,
-    D: Fn(Global, &mut Cursor<'_, Lexeme>, usize) -> Result<Boxed<Expr>, ParseStop>,
-    C: Fn(Global, &mut Cursor<'_, Lexeme>, usize) -> Result<(Boxed<Expr>, bool), ParseStop>,
-    U: Fn(Global, &mut Cursor<'_, Lexeme>, usize) -> Result<(Boxed<Expr>, bool), ParseStop>,
-    B: Fn(Global, &mut Cursor<'_, Lexeme>, usize) -> Result<Braces, ParseStop>,
-> Part<Lexeme> for OtherClause<'g, E, A, D, C, U, B> {
+impl<'g, R: Deeper> Part<Lexeme> for OtherClause<'g, R> {
     type Value = Clause;
 
-    ghost ready = { λ s. ((deeper s.grammar.now.left).room ≡ true) × (Below s.grammar.now.left (E.pre s.grammar.now.expr) (E.post s.grammar.now.expr) (A.pre s.grammar.now.assign) (A.post s.grammar.now.assign) (D.pre s.grammar.now.cond) (D.post s.grammar.now.cond) (C.pre s.grammar.now.cast) (C.post s.grammar.now.cast) (U.pre s.grammar.now.unary) (U.post s.grammar.now.unary) (B.pre s.grammar.now.braces) (B.post s.grammar.now.braces)) };
+    ghost ready = { λ s. ((deeper s.grammar.now.left).room ≡ true) × (R.ready s.grammar.now.rules s.grammar.now.left) };
 
     ghost reader = { λ s. spec.other_clause (deeper s.grammar.now.left) };
 
     fn read(&self, tokens: &mut Cursor<'_, Lexeme>) -> Result<Clause, ParseStop> {
-        self.grammar.other_clause(tokens)
+        tokens.expect(&Class::Comma)?;
+        self.grammar.clause(tokens)
     }
 }

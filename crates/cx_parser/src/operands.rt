@@ -1,14 +1,13 @@
 //! Operands and casts ([expr.unary], [expr.cast]).
 
-ghost use Rattle.std.specs.Prelude.{◌≡◌, IfOk, true, not};
+ghost use Rattle.std.specs.Prelude.{◌≡◌, true, not};
 ghost use Rattle.cx_grammar.specs.Reads.{Reads};
-ghost use Rattle.cx_parser.specs.Below.{Below};
 ghost use Rattle.cx_parser.specs.Parts as parts;
 ghost use Rattle.cx_syntax.specs.Readers as spec;
 ghost use Rattle.cx_syntax.specs.Values as values;
 ghost use Rattle.cx_syntax.specs.Readers.{deeper};
 
-use crate::grammar::Grammar;
+use crate::grammar::{Deeper, Grammar};
 use crate::heads::node;
 use cx_ahead::{
     AnyPrefix, PrefixOpIn, StartsGiven, behind, operand_fault, sees, type_ahead, type_fault,
@@ -16,7 +15,7 @@ use cx_ahead::{
 use cx_grammar::{Cursor, ParseStop};
 use cx_parser_names::{is_there, specs, stars};
 use cx_syntax::{Class, Lexeme, span_of};
-use cx_tree::{Braces, Expr, ExprKind, Given, New};
+use cx_tree::{Expr, ExprKind, Given, New};
 use sqlite_items::Boxed;
 use std::alloc::Global;
 
@@ -41,18 +40,11 @@ fn is_open(given: &Option<Given>) -> bool
     }
 }
 
-impl<
-    E: Fn(Global, &mut Cursor<'_, Lexeme>, usize) -> Result<Boxed<Expr>, ParseStop>,
-    A: Fn(Global, &mut Cursor<'_, Lexeme>, usize) -> Result<Boxed<Expr>, ParseStop>,
-    D: Fn(Global, &mut Cursor<'_, Lexeme>, usize) -> Result<Boxed<Expr>, ParseStop>,
-    C: Fn(Global, &mut Cursor<'_, Lexeme>, usize) -> Result<(Boxed<Expr>, bool), ParseStop>,
-    U: Fn(Global, &mut Cursor<'_, Lexeme>, usize) -> Result<(Boxed<Expr>, bool), ParseStop>,
-    B: Fn(Global, &mut Cursor<'_, Lexeme>, usize) -> Result<Braces, ParseStop>,
-> Grammar<E, A, D, C, U, B> {
+impl<R: Deeper> Grammar<R> {
     #[inline(never)]
     #[tactic(auto, unfolding(cx_syntax::specs::Readers::prefix))]
     fn prefix(&self, tokens: &mut Cursor<'_, Lexeme>) -> Result<(Boxed<Expr>, bool), ParseStop>
-        requires below { Below self.now.left (E.pre self.now.expr) (E.post self.now.expr) (A.pre self.now.assign) (A.post self.now.assign) (D.pre self.now.cond) (D.post self.now.cond) (C.pre self.now.cast) (C.post self.now.cast) (U.pre self.now.unary) (U.post self.now.unary) (B.pre self.now.braces) (B.post self.now.braces) }
+        requires ready { R.ready self.now.rules self.now.left }
         ensures { Reads (spec.prefix (deeper self.now.left) tokens.old) result tokens.new }
     {
         if !self.room() {
@@ -60,7 +52,7 @@ impl<
         }
         let from = tokens.rest();
         let operator = tokens.take(&PrefixOpIn)?;
-        let (operand, open_new) = self.cast_below(tokens)?;
+        let (operand, open_new) = self.rules.cast(self.alloc, tokens, self.left)?;
         let kind = ExprKind::Prefix(operator, operand);
         Ok((
             node(self.alloc, kind, span_of(tokens.since(from)))?,
@@ -71,7 +63,7 @@ impl<
     #[inline(never)]
     #[tactic(auto, unfolding(cx_syntax::specs::Readers::delete))]
     fn delete(&self, tokens: &mut Cursor<'_, Lexeme>) -> Result<(Boxed<Expr>, bool), ParseStop>
-        requires below { Below self.now.left (E.pre self.now.expr) (E.post self.now.expr) (A.pre self.now.assign) (A.post self.now.assign) (D.pre self.now.cond) (D.post self.now.cond) (C.pre self.now.cast) (C.post self.now.cast) (U.pre self.now.unary) (U.post self.now.unary) (B.pre self.now.braces) (B.post self.now.braces) }
+        requires ready { R.ready self.now.rules self.now.left }
         ensures { Reads (spec.delete (deeper self.now.left) tokens.old) result tokens.new }
     {
         if !self.room() {
@@ -80,7 +72,7 @@ impl<
         let from = tokens.rest();
         tokens.expect(&Class::Delete)?;
         let brackets = maybe_brackets(tokens)?;
-        let (operand, open_new) = self.cast_below(tokens)?;
+        let (operand, open_new) = self.rules.cast(self.alloc, tokens, self.left)?;
         let kind = ExprKind::Delete(is_there(brackets), operand);
         Ok((
             node(self.alloc, kind, span_of(tokens.since(from)))?,
@@ -90,33 +82,25 @@ impl<
 
     #[inline(never)]
     #[tactic(auto, unfolding(cx_syntax::specs::Readers::new_bound))]
-    fn new_bound(&self, tokens: &mut Cursor<'_, Lexeme>) -> Result<Boxed<Expr>, ParseStop>
-        requires below { Below self.now.left (E.pre self.now.expr) (E.post self.now.expr) (A.pre self.now.assign) (A.post self.now.assign) (D.pre self.now.cond) (D.post self.now.cond) (C.pre self.now.cast) (C.post self.now.cast) (U.pre self.now.unary) (U.post self.now.unary) (B.pre self.now.braces) (B.post self.now.braces) }
-        ensures { Reads (spec.new_bound (deeper self.now.left) tokens.old) result tokens.new }
-    {
-        if !self.room() {
-            return Err(tokens.too_deep());
-        }
-        tokens.expect(&Class::OpenBracket)?;
-        let size = self.expr_below(tokens)?;
-        tokens.expect(&Class::CloseBracket)?;
-        Ok(size)
-    }
-
-    #[inline(never)]
     fn maybe_bound(&self, tokens: &mut Cursor<'_, Lexeme>) -> Result<Option<Boxed<Expr>>, ParseStop>
-        requires below { Below self.now.left (E.pre self.now.expr) (E.post self.now.expr) (A.pre self.now.assign) (A.post self.now.assign) (D.pre self.now.cond) (D.post self.now.cond) (C.pre self.now.cast) (C.post self.now.cast) (U.pre self.now.unary) (U.post self.now.unary) (B.pre self.now.braces) (B.post self.now.braces) }
+        requires ready { R.ready self.now.rules self.now.left }
         ensures { Reads (parts.maybe_bound (deeper self.now.left) tokens.old) result tokens.new }
     {
         if !tokens.sees(&Class::OpenBracket) {
             return Ok(None);
         }
-        Ok(Some(self.new_bound(tokens)?))
+        if !self.room() {
+            return Err(tokens.too_deep());
+        }
+        tokens.expect(&Class::OpenBracket)?;
+        let size = self.rules.expr(self.alloc, tokens, self.left)?;
+        tokens.expect(&Class::CloseBracket)?;
+        Ok(Some(size))
     }
 
     #[inline(never)]
     fn maybe_given(&self, tokens: &mut Cursor<'_, Lexeme>) -> Result<Option<Given>, ParseStop>
-        requires below { Below self.now.left (E.pre self.now.expr) (E.post self.now.expr) (A.pre self.now.assign) (A.post self.now.assign) (D.pre self.now.cond) (D.post self.now.cond) (C.pre self.now.cast) (C.post self.now.cast) (U.pre self.now.unary) (U.post self.now.unary) (B.pre self.now.braces) (B.post self.now.braces) }
+        requires ready { R.ready self.now.rules self.now.left }
         ensures { Reads (parts.maybe_given (deeper self.now.left) tokens.old) result tokens.new }
     {
         if !tokens.sees(&StartsGiven) {
@@ -128,7 +112,7 @@ impl<
     #[inline(never)]
     #[tactic(auto, unfolding(cx_syntax::specs::Readers::new))]
     fn new(&self, tokens: &mut Cursor<'_, Lexeme>) -> Result<(Boxed<Expr>, bool), ParseStop>
-        requires below { Below self.now.left (E.pre self.now.expr) (E.post self.now.expr) (A.pre self.now.assign) (A.post self.now.assign) (D.pre self.now.cond) (D.post self.now.cond) (C.pre self.now.cast) (C.post self.now.cast) (U.pre self.now.unary) (U.post self.now.unary) (B.pre self.now.braces) (B.post self.now.braces) }
+        requires ready { R.ready self.now.rules self.now.left }
         ensures { Reads (spec.new (deeper self.now.left) tokens.old) result tokens.new }
     {
         let from = tokens.rest();
@@ -157,7 +141,7 @@ impl<
         &self,
         tokens: &mut Cursor<'_, Lexeme>,
     ) -> Result<(Boxed<Expr>, bool), ParseStop>
-        requires below { Below self.now.left (E.pre self.now.expr) (E.post self.now.expr) (A.pre self.now.assign) (A.post self.now.assign) (D.pre self.now.cond) (D.post self.now.cond) (C.pre self.now.cast) (C.post self.now.cast) (U.pre self.now.unary) (U.post self.now.unary) (B.pre self.now.braces) (B.post self.now.braces) }
+        requires ready { R.ready self.now.rules self.now.left }
         ensures { Reads (spec.alignof_type (deeper self.now.left) tokens.old) result tokens.new }
     {
         let from = tokens.rest();
@@ -170,7 +154,7 @@ impl<
     #[inline(never)]
     #[tactic(auto, unfolding(cx_syntax::specs::Readers::sizeof_type))]
     fn sizeof_type(&self, tokens: &mut Cursor<'_, Lexeme>) -> Result<(Boxed<Expr>, bool), ParseStop>
-        requires below { Below self.now.left (E.pre self.now.expr) (E.post self.now.expr) (A.pre self.now.assign) (A.post self.now.assign) (D.pre self.now.cond) (D.post self.now.cond) (C.pre self.now.cast) (C.post self.now.cast) (U.pre self.now.unary) (U.post self.now.unary) (B.pre self.now.braces) (B.post self.now.braces) }
+        requires ready { R.ready self.now.rules self.now.left }
         ensures { Reads (spec.sizeof_type (deeper self.now.left) tokens.old) result tokens.new }
     {
         let from = tokens.rest();
@@ -184,12 +168,12 @@ impl<
     #[tactic(auto, unfolding(cx_syntax::specs::Readers::sizeof_expr))]
     fn sizeof_expr(&self, tokens: &mut Cursor<'_, Lexeme>) -> Result<(Boxed<Expr>, bool), ParseStop>
         requires room { (deeper self.now.left).room ≡ true }
-        requires below { Below self.now.left (E.pre self.now.expr) (E.post self.now.expr) (A.pre self.now.assign) (A.post self.now.assign) (D.pre self.now.cond) (D.post self.now.cond) (C.pre self.now.cast) (C.post self.now.cast) (U.pre self.now.unary) (U.post self.now.unary) (B.pre self.now.braces) (B.post self.now.braces) }
+        requires ready { R.ready self.now.rules self.now.left }
         ensures { Reads (spec.sizeof_expr (deeper self.now.left) tokens.old) result tokens.new }
     {
         let from = tokens.rest();
         tokens.expect(&Class::Sizeof)?;
-        let (operand, open_new) = self.unary_below(tokens)?;
+        let (operand, open_new) = self.rules.unary(self.alloc, tokens, self.left)?;
         let kind = ExprKind::SizeofExpr(operand);
         Ok((
             node(self.alloc, kind, span_of(tokens.since(from)))?,
@@ -200,7 +184,7 @@ impl<
     #[inline(never)]
     #[tactic(auto, using(crate::proofs::Depth::two_and_one), unfolding(cx_syntax::specs::Readers::sizeof))]
     fn sizeof(&self, tokens: &mut Cursor<'_, Lexeme>) -> Result<(Boxed<Expr>, bool), ParseStop>
-        requires below { Below self.now.left (E.pre self.now.expr) (E.post self.now.expr) (A.pre self.now.assign) (A.post self.now.assign) (D.pre self.now.cond) (D.post self.now.cond) (C.pre self.now.cast) (C.post self.now.cast) (U.pre self.now.unary) (U.post self.now.unary) (B.pre self.now.braces) (B.post self.now.braces) }
+        requires ready { R.ready self.now.rules self.now.left }
         ensures { Reads (spec.sizeof (deeper self.now.left) tokens.old) result tokens.new }
     {
         let next = behind(tokens.rest());
@@ -223,7 +207,7 @@ impl<
     #[inline(never)]
     #[tactic(auto, unfolding(cx_syntax::specs::Readers::unary))]
     pub fn unary(&self, tokens: &mut Cursor<'_, Lexeme>) -> Result<(Boxed<Expr>, bool), ParseStop>
-        requires below { Below self.now.left (E.pre self.now.expr) (E.post self.now.expr) (A.pre self.now.assign) (A.post self.now.assign) (D.pre self.now.cond) (D.post self.now.cond) (C.pre self.now.cast) (C.post self.now.cast) (U.pre self.now.unary) (U.post self.now.unary) (B.pre self.now.braces) (B.post self.now.braces) }
+        requires ready { R.ready self.now.rules self.now.left }
         ensures { Reads (spec.unary (deeper self.now.left) tokens.old) result tokens.new }
     {
         if tokens.sees(&AnyPrefix) {
@@ -241,36 +225,26 @@ impl<
         }
     }
 
+    /// A cast ([expr.cast]), or an operand.
     #[inline(never)]
-    #[tactic(auto, unfolding(cx_syntax::specs::Readers::type_cast))]
-    fn type_cast(&self, tokens: &mut Cursor<'_, Lexeme>) -> Result<(Boxed<Expr>, bool), ParseStop>
-        requires below { Below self.now.left (E.pre self.now.expr) (E.post self.now.expr) (A.pre self.now.assign) (A.post self.now.assign) (D.pre self.now.cond) (D.post self.now.cond) (C.pre self.now.cast) (C.post self.now.cast) (U.pre self.now.unary) (U.post self.now.unary) (B.pre self.now.braces) (B.post self.now.braces) }
-        ensures { Reads (spec.type_cast (deeper self.now.left) tokens.old) result tokens.new }
+    #[tactic(auto, unfolding(cx_syntax::specs::Readers::cast, cx_syntax::specs::Readers::type_cast))]
+    pub fn cast(&self, tokens: &mut Cursor<'_, Lexeme>) -> Result<(Boxed<Expr>, bool), ParseStop>
+        requires ready { R.ready self.now.rules self.now.left }
+        ensures { Reads (spec.cast (deeper self.now.left) tokens.old) result tokens.new }
     {
+        if !tokens.sees(&Class::OpenParen) || !type_ahead(behind(tokens.rest())) {
+            return self.unary(tokens);
+        }
         if !self.room() {
             return Err(tokens.too_deep());
         }
         let from = tokens.rest();
         let ty = self.paren_typeid(tokens)?;
-        let (operand, open_new) = self.cast_below(tokens)?;
+        let (operand, open_new) = self.rules.cast(self.alloc, tokens, self.left)?;
         let kind = ExprKind::Cast(ty, operand);
         Ok((
             node(self.alloc, kind, span_of(tokens.since(from)))?,
             open_new,
         ))
-    }
-
-    /// A cast ([expr.cast]), or an operand.
-    #[inline(never)]
-    #[tactic(auto, unfolding(cx_syntax::specs::Readers::cast))]
-    pub fn cast(&self, tokens: &mut Cursor<'_, Lexeme>) -> Result<(Boxed<Expr>, bool), ParseStop>
-        requires below { Below self.now.left (E.pre self.now.expr) (E.post self.now.expr) (A.pre self.now.assign) (A.post self.now.assign) (D.pre self.now.cond) (D.post self.now.cond) (C.pre self.now.cast) (C.post self.now.cast) (U.pre self.now.unary) (U.post self.now.unary) (B.pre self.now.braces) (B.post self.now.braces) }
-        ensures { Reads (spec.cast (deeper self.now.left) tokens.old) result tokens.new }
-    {
-        if tokens.sees(&Class::OpenParen) && type_ahead(behind(tokens.rest())) {
-            self.type_cast(tokens)
-        } else {
-            self.unary(tokens)
-        }
     }
 }

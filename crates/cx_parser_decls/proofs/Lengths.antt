@@ -10,9 +10,12 @@ use Rattle.cx_grammar.proofs.Loops.{shortens}
 use Rattle.cx_grammar.proofs.Steps.{exactly_before, exactly_token}
 use Rattle.cx_syntax.specs.Classes.{is}
 use Rattle.cx_syntax.specs.Grammar as e
-use Rattle.cx_syntax_decls.specs.Readers.{deeper_member, deeper_decl, other_name, decl}
+use Rattle.cx_syntax_decls.specs.Grammar as g
+use Rattle.cx_syntax_decls.specs.Readers.{deeper_member, deeper_decl, other_name, decl, other_minit, other_base}
+use Rattle.cx_syntax_decls.proofs.Classes.{exactly_base}
 use Rattle.cx_syntax_decls.proofs.Knots.{exactly_decl, exactly_member, heads_decl}
 use Rattle.cx_syntax_decls.proofs.Members.{heads_member}
+use Rattle.cx_syntax_decls.proofs.Special.{exactly_minit}
 use Rattle.cx_parser_decls.specs.Parts.{guarded_decl, guarded_member}
 
 pub short_member : (n : ℕ) → Shortens (guarded_member n)
@@ -30,3 +33,9 @@ short_deeper_decl (suc n) = short_decl n
 
 pub short_name : Shortens other_name
 short_name = shortens (heads_before {G = λ n. e.id} (is k.ColonColon)) (exactly_before {least = 0} (is k.ColonColon) exactly_token)
+
+pub short_minit : (left : ℕ) → Shortens (other_minit left)
+short_minit left = shortens (heads_before {G = λ n. g.minit n} (is k.Comma)) (exactly_before (is k.Comma) (exactly_minit left))
+
+pub short_base : (left : ℕ) → Shortens (other_base left)
+short_base left = shortens (heads_before {G = λ n. g.base n} (is k.Comma)) (exactly_before (is k.Comma) (exactly_base left))

@@ -1,3 +1,4 @@
+mod Begins
 mod Depth
 mod Lengths
 mod WholeUnits

@@ -1,5 +1,6 @@
--- The alternatives of a member and of a declaration, as the functions read them.
-use Rattle.std.specs.Prelude.{ℕ}
+-- What the functions read by the way: members behind their attributes, and the alternatives of a member and of a declaration.
+use Rattle.std.specs.Prelude.{ℕ, Option}
+use Rattle.cx_tree.specs.declared.decls.Access.{Access}
 use Rattle.cx_tree.specs.declared.decls.Decl.{Decl}
 use Rattle.cx_tree.specs.declared.decls.DeclKind.{DeclKind}
 use Rattle.cx_tree.specs.declared.decls.DeclKind.TheVariants as d
@@ -8,11 +9,36 @@ use Rattle.cx_tree.specs.declared.decls.MemberKind.{MemberKind}
 use Rattle.cx_tree.specs.declared.decls.MemberKind.TheVariants as m
 use Rattle.cx_syntax.specs.declared.class.Class.TheVariants as k
 use Rattle.cx_syntax.specs.declared.lexeme.Lexeme.{Lexeme}
-use Rattle.cx_grammar.specs.Reading.{Reader, guarded, the, ◌<$>◌, ◌⊲◌}
-use Rattle.cx_syntax.specs.Classes.{is}
+use Rattle.cx_grammar.specs.Reading.{Reader, made, guarded, maybe_if, the, ◌<$>◌, ◌⊲◌}
+use Rattle.cx_grammar.specs.Sets.{of}
+use Rattle.cx_syntax.specs.Classes.{class_at, is}
 use Rattle.cx_syntax_parts.specs.Readers as parts
+use Rattle.cx_syntax_parts.specs.Sets.{is_access}
 use Rattle.cx_syntax_vars.specs.Readers as variables
 use Rattle.cx_syntax_decls.specs.Readers as r
+use Rattle.cx_syntax_decls.specs.Values.{function_by, of_ctor, of_dtor, of_entity}
+
+-- ---- members behind attributes that nest so many levels
+
+abbrev pub constructor_with : ℕ → ℕ → Reader Lexeme MemberKind
+constructor_with attrs n ts = made (function_by attrs) (made of_ctor (r.ctor_behind n ts))
+
+abbrev pub destructor_with : ℕ → ℕ → Reader Lexeme MemberKind
+destructor_with attrs n ts = made (function_by attrs) (made of_dtor (r.dtor_behind n ts))
+
+-- variables or a function
+abbrev pub entity_with : ℕ → ℕ → Reader Lexeme MemberKind
+entity_with attrs n ts = made (function_by attrs) (made of_entity (r.entity_end n ts))
+
+-- which of them, by what stands behind the modifiers
+abbrev pub kind_with : ℕ → ℕ → Reader Lexeme MemberKind
+kind_with attrs n ts = made (function_by attrs) (r.behind_attrs n ts)
+
+-- ---- bases
+
+-- access?
+abbrev pub maybe_access : Reader Lexeme (Option Access)
+maybe_access = maybe_if (of class_at is_access) parts.access
 
 -- ---- members
 
@@ -39,9 +65,6 @@ typedef_member = m.Typedef <$> variables.typedef
 abbrev pub enum_member : ℕ → Reader Lexeme MemberKind
 enum_member n = m.Enum <$> parts.enum n
 
-abbrev pub class_member : ℕ → r.Members → Reader Lexeme MemberKind
-class_member n below = m.Class <$> r.class_over n below
-
 -- ---- declarations
 
 -- a declaration one level deeper, where there is such a level
@@ -65,9 +88,6 @@ typedef_decl = d.Typedef <$> variables.typedef
 
 abbrev pub enum_decl : ℕ → Reader Lexeme DeclKind
 enum_decl n = d.Enum <$> parts.enum n
-
-abbrev pub class_decl : ℕ → Reader Lexeme DeclKind
-class_decl n = d.Class <$> r.class n
 
 abbrev pub entity_decl : ℕ → Reader Lexeme DeclKind
 entity_decl n = d.Entity <$> r.entity n

@@ -8,6 +8,7 @@ ghost use Rattle.cx_syntax_decls.specs.Readers as spec;
 ghost use Rattle.cx_syntax_decls.specs.Readers.{deeper_member};
 
 use crate::ahead::class_ahead;
+use crate::bases::maybe_bases;
 use crate::kinds::{
     access_member, alias_member, assert_member, empty_member, enum_member, function_member,
     new_member, typedef_member,
@@ -16,17 +17,16 @@ use crate::sets::{Final, KeyIn, StartsMember};
 use cx_ahead::Type;
 use cx_base::List;
 use cx_grammar::{Cursor, ParseStop, Part, read_many};
-use cx_parser_functions::maybe_bases;
-use cx_parser_heads::enum_ahead;
 use cx_parser_names::{ident, is_there, or_none};
-use cx_parser_parts::{AnyAccess, attrs};
+use cx_parser_stmts::enum_ahead;
+use cx_parser_vars::{AnyAccess, attrs};
 use cx_syntax::{Class as Token, Lexeme, span_of};
 use cx_tree::{Class, ClassBody, Member, MemberKind};
 use sqlite_items::Boxed;
 use std::alloc::Global;
 
 /// The rules with so many levels left, over that of a member one level deeper.
-#[derive(Clone, Copy)]
+#[derive(Drop)]
 pub struct Classes<M> {
     pub alloc: Global,
     pub left: usize,
@@ -148,15 +148,6 @@ impl<M: Fn(Global, &mut Cursor<'_, Lexeme>, usize) -> Result<Boxed<Member>, Pars
         })
     }
 
-    #[inline(never)]
-    fn class_member(&self, tokens: &mut Cursor<'_, Lexeme>) -> Result<Boxed<MemberKind>, ParseStop>
-        requires { Nests (λ n. spec.member n) self.now.left (M.pre self.now.member) (M.post self.now.member) }
-        ensures { Reads (parts.class_member self.now.left (deeper_member self.now.left) tokens.old) result tokens.new }
-    {
-        let class = self.class(tokens)?;
-        Ok(Boxed::new(self.alloc, MemberKind::Class(class))?)
-    }
-
     /// An enumeration, a class, or what else is declared.
     #[inline(never)]
     #[tactic(auto, unfolding(cx_syntax_decls::specs::Readers::declared_member))]
@@ -170,7 +161,8 @@ impl<M: Fn(Global, &mut Cursor<'_, Lexeme>, usize) -> Result<Boxed<Member>, Pars
         if enum_ahead(tokens.rest()) {
             enum_member(self.alloc, tokens, self.left)
         } else if class_ahead(tokens.rest()) {
-            self.class_member(tokens)
+            let class = self.class(tokens)?;
+            Ok(Boxed::new(self.alloc, MemberKind::Class(class))?)
         } else {
             function_member(self.alloc, tokens, self.left)
         }

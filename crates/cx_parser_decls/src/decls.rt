@@ -16,9 +16,9 @@ use crate::sets::StartsDecl;
 use cx_ahead::Id;
 use cx_base::List;
 use cx_grammar::{Cursor, ParseStop, Part, read_many};
-use cx_parser_heads::enum_ahead;
 use cx_parser_names::{ident, read_more};
-use cx_parser_parts::attrs;
+use cx_parser_stmts::enum_ahead;
+use cx_parser_vars::attrs;
 use cx_syntax::{Class, Lexeme, span_of};
 use cx_tree::{Decl, DeclKind, Ident, Namespace};
 use sqlite_items::Boxed;
@@ -54,20 +54,8 @@ fn space_names(alloc: Global, tokens: &mut Cursor<'_, Lexeme>) -> Result<List<Id
     read_more(tokens, first, &Class::ColonColon, &OtherName { alloc })
 }
 
-#[inline(never)]
-fn class_decl(
-    alloc: Global,
-    tokens: &mut Cursor<'_, Lexeme>,
-    left: usize,
-) -> Result<Boxed<DeclKind>, ParseStop>
-    ensures { Reads (parts.class_decl left tokens.old) result tokens.new }
-{
-    let class = class(alloc, tokens, left)?;
-    Ok(Boxed::new(alloc, DeclKind::Class(class))?)
-}
-
 /// The rules with so many levels left, over that of a declaration one level deeper.
-#[derive(Clone, Copy)]
+#[derive(Drop)]
 pub struct Spaces<D> {
     pub alloc: Global,
     pub left: usize,
@@ -158,7 +146,8 @@ impl<D: Fn(Global, &mut Cursor<'_, Lexeme>, usize) -> Result<Boxed<Decl>, ParseS
         if enum_ahead(tokens.rest()) {
             enum_decl(self.alloc, tokens, self.left)
         } else if class_ahead(tokens.rest()) {
-            class_decl(self.alloc, tokens, self.left)
+            let class = class(self.alloc, tokens, self.left)?;
+            Ok(Boxed::new(self.alloc, DeclKind::Class(class))?)
         } else {
             entity_decl(self.alloc, tokens, self.left)
         }

@@ -6,11 +6,11 @@ ghost use Rattle.cx_parser_decls.specs.Parts as parts;
 ghost use Rattle.cx_syntax_decls.specs.Readers as spec;
 ghost use Rattle.cx_syntax_decls.specs.Values as values;
 
+use crate::entities::entity;
+use crate::member_functions::member_function;
 use cx_base::Span;
 use cx_grammar::{Cursor, ParseStop};
-use cx_parser_functions::{entity, member_function};
-use cx_parser_parts::{access, alias, enumeration, static_assert};
-use cx_parser_vars::typedef;
+use cx_parser_vars::{access, alias, enumeration, static_assert, typedef};
 use cx_syntax::{Class, Lexeme};
 use cx_tree::{Decl, DeclKind, Member, MemberKind};
 use sqlite_items::Boxed;

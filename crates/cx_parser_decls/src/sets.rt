@@ -1,10 +1,70 @@
 //! Sets of tokens, and what single tokens give.
 
+use cx_ahead::{AnyElaboration, AnyTypeWord, BeginsType, Type};
 use cx_grammar::{Pick, Test};
-use cx_parser_heads::StartsSpecs;
-use cx_parser_parts::AnyAccess;
+use cx_parser_stmts::StartsSpecs;
+use cx_parser_vars::AnyAccess;
 use cx_syntax::{Class, Lexeme};
 use cx_tree::ClassKey;
+
+/// What a parameter begins with ([dcl.fct]).
+pub struct StartsParam;
+
+impl Test<Lexeme> for StartsParam {
+    ghost use Rattle.cx_syntax.specs.Classes.{class_at};
+    ghost use Rattle.cx_syntax_vars.specs.Sets.{starts_param};
+
+    ghost holds = { λ _ t. starts_param (class_at t) };
+
+    fn test(&self, token: &Lexeme) -> bool {
+        Class::OpenBracket.test(token) || StartsSpecs.test(token)
+    }
+}
+
+/// What only a type begins with behind modifiers: a word, a key, `enum` or `::`.
+pub struct LeadsTyped;
+
+impl Test<Lexeme> for LeadsTyped {
+    ghost use Rattle.cx_syntax.specs.Classes.{class_at};
+    ghost use Rattle.cx_syntax_decls.specs.Sets.{leads_typed};
+
+    ghost holds = { λ _ t. leads_typed (class_at t) };
+
+    fn test(&self, token: &Lexeme) -> bool {
+        AnyTypeWord.test(token) || AnyElaboration.test(token) || Class::ColonColon.test(token)
+    }
+}
+
+/// What stands behind `(` only where parameters do.
+pub struct BeginsParams;
+
+impl Test<Lexeme> for BeginsParams {
+    ghost use Rattle.cx_syntax.specs.Classes.{class_at};
+    ghost use Rattle.cx_syntax_decls.specs.Sets.{begins_params};
+
+    ghost holds = { λ _ t. begins_params (class_at t) };
+
+    fn test(&self, token: &Lexeme) -> bool {
+        Class::CloseParen.test(token)
+            || Class::OpenBracket.test(token)
+            || AnyTypeWord.test(token)
+            || BeginsType.test(token)
+    }
+}
+
+/// What a declarator's name begins with in a function alone.
+pub struct BeginsQualified;
+
+impl Test<Lexeme> for BeginsQualified {
+    ghost use Rattle.cx_syntax.specs.Classes.{class_at};
+    ghost use Rattle.cx_syntax_decls.specs.Sets.{begins_qualified};
+
+    ghost holds = { λ _ t. begins_qualified (class_at t) };
+
+    fn test(&self, token: &Lexeme) -> bool {
+        Type.test(token) || Class::Operator.test(token)
+    }
+}
 
 /// The word that begins a class ([class.pre]).
 pub struct Key;

@@ -1,6 +1,8 @@
 -- The readers one level deeper.
-use Rattle.std.proofs.Common.{◌≡◌, ◌≢◌, ℕ, zero, suc, ◌-◌, ◌≤◌, true, not, List, refl, ap, subst, arith, nat_eq, Result}
+use Rattle.std.proofs.Common.{◌≡◌, ◌≢◌, ℕ, zero, suc, ◌-◌, ◌≤◌, true, not, List, length, refl, ap, subst, arith, nat_eq, Result}
 use Rattle.std.proofs.lemmas.Bool.Decides.{nat_tests}
+use Rattle.cx_base.specs.declared.rule.Rule.TheVariants.{Syntax}
+use Rattle.cx_grammar.specs.Exact.{stop}
 use Rattle.cx_grammar.specs.declared.stop.ParseStop.{ParseStop}
 use Rattle.cx_grammar.specs.Reading.{Reader}
 use Rattle.cx_grammar.specs.Reads.{Reads}
@@ -33,3 +35,15 @@ pub item_deeper : (n : ℕ) → r.room n ≡ true → r.item (n - 1) ≡ (r.deep
 unfolding e.deeper r.deeper
 item_deeper zero there = cc
 item_deeper (suc n) there = ap (λ m. r.item m) (one_less n)
+
+-- ---- an expression one level deeper
+
+pub none_below : (n : ℕ) (ts : List Lexeme) → n ≡ 0 → (e.deeper n).expr ts ≡ stop Syntax (length ts)
+unfolding e.deeper
+none_below zero ts is = refl
+none_below (suc n) ts is = absurd (omega arith)
+
+pub expr_deeper : (n : ℕ) → n ≢ 0 → e.expr (e.deeper (n - 1)) ≡ (e.deeper n).expr
+unfolding e.deeper
+expr_deeper zero h = absurd (h refl)
+expr_deeper (suc n) h = ap (λ m. e.expr (e.deeper m)) (one_less n)

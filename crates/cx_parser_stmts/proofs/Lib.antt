@@ -1,2 +1,3 @@
 mod Depth
 mod Short
+mod Specs

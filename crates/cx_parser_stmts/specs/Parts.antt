@@ -1,33 +1,66 @@
 -- What the functions read by the way.
-use Rattle.std.specs.Prelude.{ℕ, List}
+use Rattle.std.specs.Prelude.{◌≡◌, ℕ, Bool, false, List, Option, Result, Ok, Err}
+use Rattle.cx_base.specs.declared.Memory.{Memory}
 use Rattle.cx_base.specs.declared.diag.Span.{Span}
 use Rattle.cx_tree.specs.declared.exprs.Expr.{Expr}
-use Rattle.cx_tree.specs.declared.stmts.Item.{Item}
 use Rattle.cx_tree.specs.declared.stmts.Item.TheVariants as i
-use Rattle.cx_tree.specs.declared.stmts.StmtKind.{StmtKind}
+use Rattle.cx_tree.specs.declared.stmts.Item.{Item}
+use Rattle.cx_tree.specs.declared.stmts.LabelKind.{LabelKind}
+use Rattle.cx_tree.specs.declared.stmts.Returned.{Returned}
 use Rattle.cx_tree.specs.declared.stmts.StmtKind.TheVariants as s
+use Rattle.cx_tree.specs.declared.stmts.StmtKind.{StmtKind}
 use Rattle.cx_tree.specs.declared.stmts.SwitchItem.{SwitchItem}
+use Rattle.cx_grammar.specs.Reading.{Reader, sees, maybe_if, ◌>>◌, ◌<$>◌, ◌⊲◌, the, guarded, ◌⊳◌}
+use Rattle.cx_grammar.specs.Sets.{of}
+use Rattle.cx_grammar.specs.declared.stop.ParseStop.TheVariants.{Fault}
+use Rattle.cx_grammar.specs.declared.stop.ParseStop.{ParseStop}
+use Rattle.cx_syntax.specs.Classes.{class_at, is}
+use Rattle.cx_syntax.specs.Readers.{choose, just, deeper}
+use Rattle.cx_syntax.specs.Sets.{starts_assign, starts_clause}
 use Rattle.cx_syntax.specs.declared.class.Class.TheVariants as k
 use Rattle.cx_syntax.specs.declared.lexeme.Lexeme.{Lexeme}
-use Rattle.cx_grammar.specs.Reading.{Reader, the, guarded, ◌>>◌, ◌<$>◌, ◌⊳◌, ◌⊲◌}
-use Rattle.cx_syntax.specs.Classes.{is}
 use Rattle.cx_syntax_parts.specs.Readers.{assert, alias, enum}
-use Rattle.cx_syntax_vars.specs.Readers.{typedef, declared}
-use Rattle.cx_syntax_stmts.specs.declared.parts.BehindAttrs.{BehindAttrs}
-use Rattle.cx_syntax_stmts.specs.declared.parts.BehindAttrs.TheVariants as behind
-use Rattle.cx_syntax_stmts.specs.declared.parts.ForHead.{ForHead}
-use Rattle.cx_syntax_stmts.specs.Values.{vars_of}
 use Rattle.cx_syntax_stmts.specs.Readers as r
+use Rattle.cx_syntax_stmts.specs.Values.{steps_of, range_of, vars_of}
+use Rattle.cx_syntax_stmts.specs.declared.parts.BehindAttrs.TheVariants as behind
+use Rattle.cx_syntax_stmts.specs.declared.parts.BehindAttrs.{BehindAttrs}
+use Rattle.cx_syntax_stmts.specs.declared.parts.ForHead.{ForHead}
+use Rattle.cx_syntax_vars.specs.Readers.{typedef, declared}
+
+abbrev pub label_kind : ℕ → Reader Lexeme LabelKind
+label_kind left = choose (just k.Case) (r.case_label left) (r.default_label left)
+
+-- what a `return` gives, if it gives anything
+abbrev pub maybe_returned : ℕ → Reader Lexeme (Option Returned)
+maybe_returned left = maybe_if (of class_at starts_clause) (r.returned left)
+
+-- ---- what stands in the parentheses of a `for`
+
+abbrev pub maybe_plain : ℕ → Reader Lexeme (Option Expr)
+maybe_plain left = maybe_if (of class_at starts_assign) (r.plain (deeper left).expr)
+
+-- the condition and the step
+abbrev pub steps_end : ℕ → Reader Lexeme (Option Expr × Option Expr)
+steps_end left = (r.maybe_expr left ⊲ is k.Semicolon) >> r.maybe_expr left
+
+abbrev pub steps_head : ℕ → Reader Lexeme ForHead
+steps_head left = steps_of <$> r.for_steps left
+
+abbrev pub range_head : ℕ → Reader Lexeme ForHead
+range_head left = range_of <$> r.for_range left
+
+-- Whether `:` stands where what was read ends: never behind a fault. Without memory nothing is known.
+abbrev pub ColonSeen : {A : Type 0} → Result A ParseStop → List Lexeme → Result Bool Memory → Type 0
+ColonSeen found rest (Err e) = Unit {0}
+ColonSeen (Ok v) rest (Ok b) = b ≡ sees (is k.Colon) rest
+ColonSeen (Err (Fault rule left)) rest (Ok b) = b ≡ false
+ColonSeen (Err e) rest (Ok b) = ⊥
 
 -- ---- blocks
 
 -- what stands in a block, where there is a level deeper
 abbrev pub item_there : ℕ → Reader Lexeme Item
 item_there n = guarded (r.room n) (r.deeper n).item
-
--- what stands in braces, and where the last of them does
-abbrev pub in_braces : ℕ → Reader Lexeme (List Item × Span)
-in_braces n = is k.OpenBrace ⊳ r.items n (r.deeper n) >> r.place k.CloseBrace
 
 abbrev pub block_stmt : ℕ → Reader Lexeme StmtKind
 block_stmt n = s.Block <$> r.block n
@@ -36,10 +69,6 @@ abbrev pub empty_stmt : Reader Lexeme StmtKind
 empty_stmt = (λ _. s.Empty) <$> the (is k.Semicolon)
 
 -- ---- statements with statements
-
--- `switch` and its condition
-abbrev pub switch_head : ℕ → Reader Lexeme Expr
-switch_head n = is k.Switch ⊳ r.condition n
 
 -- labels and items in braces
 abbrev pub switch_body : ℕ → Reader Lexeme (List SwitchItem)
@@ -70,7 +99,3 @@ enum_item n = i.Enum <$> enum n
 -- variables behind attributes
 abbrev pub vars_behind : ℕ → Reader Lexeme BehindAttrs
 vars_behind n = vars_of <$> declared n
-
--- a statement behind attributes
-abbrev pub stmt_behind : ℕ → Reader Lexeme BehindAttrs
-stmt_behind n = behind.Stmt <$> r.stmt_kind n (r.deeper n)

@@ -2,19 +2,17 @@
 
 ghost use Rattle.std.specs.Prelude.{◌≡◌, IfOk};
 ghost use Rattle.cx_grammar.specs.Reads.{Reads};
-ghost use Rattle.cx_parser_stmts.specs.Below.{Below};
 ghost use Rattle.cx_parser_stmts.specs.Parts as parts;
 ghost use Rattle.cx_syntax_stmts.specs.Readers as spec;
 ghost use Rattle.cx_syntax_stmts.specs.Readers.{deeper};
 ghost use Rattle.cx_syntax_stmts.specs.Values as values;
 
-use crate::statements::Statements;
+use crate::ahead::enum_ahead;
+use crate::statements::{Nested, Statements};
 use cx_ahead::type_ahead;
 use cx_base::Span;
 use cx_grammar::{Cursor, ParseStop};
-use cx_parser_heads::enum_ahead;
-use cx_parser_parts::{alias, attrs, enumeration, static_assert};
-use cx_parser_vars::{declared, typedef};
+use cx_parser_vars::{alias, attrs, declared, enumeration, static_assert, typedef};
 use cx_syntax::{Class, Lexeme, span_of};
 use cx_syntax_stmts::BehindAttrs;
 use cx_tree::{Item, Local, Stmt, StmtKind};
@@ -106,37 +104,25 @@ fn plain_of(
     Boxed::new(alloc, item)
 }
 
-impl<
-    S: Fn(Global, &mut Cursor<'_, Lexeme>, usize) -> Result<Boxed<Stmt>, ParseStop>,
-    I: Fn(Global, &mut Cursor<'_, Lexeme>, usize) -> Result<Boxed<Item>, ParseStop>,
-> Statements<S, I> {
-    // A statement behind attributes.
-    #[inline(never)]
-    fn stmt_behind(&self, tokens: &mut Cursor<'_, Lexeme>) -> Result<Boxed<BehindAttrs>, ParseStop>
-        requires below { Below self.now.left (S.pre self.now.stmt) (S.post self.now.stmt) (I.pre self.now.item) (I.post self.now.item) }
-        ensures { Reads (parts.stmt_behind self.now.left tokens.old) result tokens.new }
-    {
-        let kind = self.stmt_kind(tokens)?;
-        Ok(behind_of(self.alloc, kind)?)
-    }
-
+impl<R: Nested> Statements<R> {
     #[inline(never)]
     #[tactic(auto, unfolding(cx_syntax_stmts::specs::Readers::behind_attrs))]
     fn behind_attrs(&self, tokens: &mut Cursor<'_, Lexeme>) -> Result<Boxed<BehindAttrs>, ParseStop>
-        requires below { Below self.now.left (S.pre self.now.stmt) (S.post self.now.stmt) (I.pre self.now.item) (I.post self.now.item) }
+        requires ready { R.ready self.now.rules self.now.left }
         ensures { Reads (spec.behind_attrs self.now.left (deeper self.now.left) tokens.old) result tokens.new }
     {
         if type_ahead(tokens.rest()) {
             vars_behind(self.alloc, tokens, self.left)
         } else {
-            self.stmt_behind(tokens)
+            let kind = self.stmt_kind(tokens)?;
+            Ok(behind_of(self.alloc, kind)?)
         }
     }
 
     #[inline(never)]
     #[tactic(auto, unfolding(cx_syntax_stmts::specs::Readers::plain_item))]
     fn plain_item(&self, tokens: &mut Cursor<'_, Lexeme>) -> Result<Boxed<Item>, ParseStop>
-        requires below { Below self.now.left (S.pre self.now.stmt) (S.post self.now.stmt) (I.pre self.now.item) (I.post self.now.item) }
+        requires ready { R.ready self.now.rules self.now.left }
         ensures { Reads (spec.plain_item self.now.left (deeper self.now.left) tokens.old) result tokens.new }
     {
         let from = tokens.rest();
@@ -146,23 +132,11 @@ impl<
         Ok(plain_of(self.alloc, attrs, behind, span)?)
     }
 
-    #[inline(never)]
-    fn enum_or_plain(&self, tokens: &mut Cursor<'_, Lexeme>) -> Result<Boxed<Item>, ParseStop>
-        requires below { Below self.now.left (S.pre self.now.stmt) (S.post self.now.stmt) (I.pre self.now.item) (I.post self.now.item) }
-        ensures { Reads (spec.enum_or_plain self.now.left (deeper self.now.left) tokens.old) result tokens.new }
-    {
-        if enum_ahead(tokens.rest()) {
-            enum_item(self.alloc, tokens, self.left)
-        } else {
-            self.plain_item(tokens)
-        }
-    }
-
     /// What stands in a block ([stmt.dcl]).
     #[inline(never)]
     #[tactic(auto, unfolding(cx_syntax_stmts::specs::Readers::item_with))]
     pub fn item(&self, tokens: &mut Cursor<'_, Lexeme>) -> Result<Boxed<Item>, ParseStop>
-        requires below { Below self.now.left (S.pre self.now.stmt) (S.post self.now.stmt) (I.pre self.now.item) (I.post self.now.item) }
+        requires ready { R.ready self.now.rules self.now.left }
         ensures { Reads (spec.item self.now.left tokens.old) result tokens.new }
     {
         if tokens.sees(&Class::StaticAssert) {
@@ -171,8 +145,10 @@ impl<
             alias_item(self.alloc, tokens, self.left)
         } else if tokens.sees(&Class::Typedef) {
             typedef_item(self.alloc, tokens)
+        } else if enum_ahead(tokens.rest()) {
+            enum_item(self.alloc, tokens, self.left)
         } else {
-            self.enum_or_plain(tokens)
+            self.plain_item(tokens)
         }
     }
 }

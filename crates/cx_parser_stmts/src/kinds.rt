@@ -2,19 +2,18 @@
 
 ghost use Rattle.std.specs.Prelude.{◌≡◌, IfOk};
 ghost use Rattle.cx_grammar.specs.Reads.{Reads};
-ghost use Rattle.cx_parser_stmts.specs.Below.{Below};
 ghost use Rattle.cx_parser_stmts.specs.Parts as parts;
 ghost use Rattle.cx_syntax_stmts.specs.Readers as spec;
 ghost use Rattle.cx_syntax_stmts.specs.Readers.{deeper};
 ghost use Rattle.cx_syntax_stmts.specs.Values as values;
 
-use crate::statements::Statements;
+use crate::jumps::jump_stmt;
+use crate::statements::{Nested, Statements};
 use cx_base::Span;
 use cx_grammar::{Cursor, ParseStop};
-use cx_parser_heads::jump_stmt;
-use cx_parser_parts::attrs;
+use cx_parser_vars::attrs;
 use cx_syntax::{Class, Lexeme, span_of};
-use cx_tree::{Item, Stmt, StmtKind};
+use cx_tree::{Stmt, StmtKind};
 use sqlite_items::Boxed;
 use std::alloc::{AllocError, Global};
 
@@ -56,13 +55,10 @@ fn other_stmt(
     Ok(Boxed::new(alloc, kind)?)
 }
 
-impl<
-    S: Fn(Global, &mut Cursor<'_, Lexeme>, usize) -> Result<Boxed<Stmt>, ParseStop>,
-    I: Fn(Global, &mut Cursor<'_, Lexeme>, usize) -> Result<Boxed<Item>, ParseStop>,
-> Statements<S, I> {
+impl<R: Nested> Statements<R> {
     #[inline(never)]
     fn block_stmt(&self, tokens: &mut Cursor<'_, Lexeme>) -> Result<Boxed<StmtKind>, ParseStop>
-        requires below { Below self.now.left (S.pre self.now.stmt) (S.post self.now.stmt) (I.pre self.now.item) (I.post self.now.item) }
+        requires ready { R.ready self.now.rules self.now.left }
         ensures { Reads (parts.block_stmt self.now.left tokens.old) result tokens.new }
     {
         let block = self.block(tokens)?;
@@ -72,7 +68,7 @@ impl<
     #[inline(never)]
     #[tactic(auto, unfolding(cx_syntax_stmts::specs::Readers::loop_stmt))]
     fn loop_stmt(&self, tokens: &mut Cursor<'_, Lexeme>) -> Result<Boxed<StmtKind>, ParseStop>
-        requires below { Below self.now.left (S.pre self.now.stmt) (S.post self.now.stmt) (I.pre self.now.item) (I.post self.now.item) }
+        requires ready { R.ready self.now.rules self.now.left }
         ensures { Reads (spec.loop_stmt self.now.left (deeper self.now.left) tokens.old) result tokens.new }
     {
         if tokens.sees(&Class::While) {
@@ -92,7 +88,7 @@ impl<
     #[inline(never)]
     #[tactic(auto, unfolding(cx_syntax_stmts::specs::Readers::stmt_kind, cx_syntax_stmts::specs::Readers::empty_stmt))]
     pub fn stmt_kind(&self, tokens: &mut Cursor<'_, Lexeme>) -> Result<Boxed<StmtKind>, ParseStop>
-        requires below { Below self.now.left (S.pre self.now.stmt) (S.post self.now.stmt) (I.pre self.now.item) (I.post self.now.item) }
+        requires ready { R.ready self.now.rules self.now.left }
         ensures { Reads (spec.stmt_kind self.now.left (deeper self.now.left) tokens.old) result tokens.new }
     {
         if tokens.sees(&Class::OpenBrace) {
@@ -110,7 +106,7 @@ impl<
     #[inline(never)]
     #[tactic(auto, unfolding(cx_syntax_stmts::specs::Readers::stmt_with))]
     pub fn stmt(&self, tokens: &mut Cursor<'_, Lexeme>) -> Result<Boxed<Stmt>, ParseStop>
-        requires below { Below self.now.left (S.pre self.now.stmt) (S.post self.now.stmt) (I.pre self.now.item) (I.post self.now.item) }
+        requires ready { R.ready self.now.rules self.now.left }
         ensures { Reads (spec.stmt self.now.left tokens.old) result tokens.new }
     {
         let from = tokens.rest();

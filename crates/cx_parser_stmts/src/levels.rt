@@ -8,7 +8,7 @@ ghost use Rattle.cx_syntax_stmts.specs.Goes.{goes_item, goes_stmt};
 ghost use Rattle.cx_syntax_stmts.specs.Readers as spec;
 ghost use Rattle.cx_syntax_stmts.specs.Symbols as symbols;
 
-use crate::statements::Statements;
+use crate::statements::{Functions, Statements};
 use cx_grammar::{Cursor, ParseStop};
 use cx_syntax::Lexeme;
 use cx_tree::{Block, Item, Stmt};
@@ -21,8 +21,10 @@ macro_rules! rules {
         Statements {
             alloc: $alloc,
             left: $left,
-            stmt: stmt_within,
-            item: item_within,
+            rules: Functions {
+                stmt: stmt_within,
+                item: item_within,
+            },
         }
     };
 }
@@ -47,16 +49,6 @@ fn item_within(
     ensures { Reads (spec.item left tokens.old) result tokens.new }
 {
     rules!(alloc, left).item(tokens)
-}
-
-fn block_within(
-    alloc: Global,
-    tokens: &mut Cursor<'_, Lexeme>,
-    left: usize,
-) -> Result<Block, ParseStop>
-    ensures { Reads (spec.block left tokens.old) result tokens.new }
-{
-    rules!(alloc, left).block(tokens)
 }
 
 fn whole_item(
@@ -88,7 +80,7 @@ pub fn block(
     ensures reads { Reads (spec.block left tokens.old) result tokens.new }
     ensures begins { Begins symbols.block nothing left tokens.old result tokens.new }
 {
-    block_within(alloc, tokens, left)
+    rules!(alloc, left).block(tokens)
 }
 
 /// What stands in a block, with so many levels left ([stmt.dcl]): the one tree of the tokens that it takes, or the first token with which they are the front of none.

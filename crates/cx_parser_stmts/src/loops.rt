@@ -2,19 +2,19 @@
 
 ghost use Rattle.std.specs.Prelude.{◌≡◌, true, IfOk};
 ghost use Rattle.cx_grammar.specs.Reads.{Reads};
-ghost use Rattle.cx_parser_stmts.specs.Below.{Below};
 ghost use Rattle.cx_parser_stmts.specs.Parts as parts;
 ghost use Rattle.cx_syntax_stmts.specs.Readers as spec;
 ghost use Rattle.cx_syntax_stmts.specs.Readers.{deeper};
 ghost use Rattle.cx_syntax_stmts.specs.Values as values;
 
-use crate::statements::Statements;
+use crate::exprs::{condition, place};
+use crate::for_heads::for_head;
+use crate::statements::{Nested, Statements};
 use cx_base::Span;
 use cx_grammar::{Cursor, ParseStop};
-use cx_parser_heads::{condition, for_head, place};
 use cx_syntax::{Class, Lexeme};
 use cx_syntax_stmts::ForHead;
-use cx_tree::{Expr, Item, Stmt, StmtKind};
+use cx_tree::{Expr, Stmt, StmtKind};
 use sqlite_items::Boxed;
 use std::alloc::{AllocError, Global};
 
@@ -73,7 +73,7 @@ fn for_begin(
     tokens.expect(&Class::OpenParen)?;
     let head = for_head(alloc, tokens, left)?;
     tokens.expect(&Class::CloseParen)?;
-    Ok((at, Boxed::new(alloc, head)?))
+    Ok((at, head))
 }
 
 // `while`, the condition and `;` behind the statement of a `do`.
@@ -91,15 +91,12 @@ fn do_end(
     Ok(test)
 }
 
-impl<
-    S: Fn(Global, &mut Cursor<'_, Lexeme>, usize) -> Result<Boxed<Stmt>, ParseStop>,
-    I: Fn(Global, &mut Cursor<'_, Lexeme>, usize) -> Result<Boxed<Item>, ParseStop>,
-> Statements<S, I> {
+impl<R: Nested> Statements<R> {
     /// `while` ([stmt.while]).
     #[inline(never)]
     #[tactic(auto, unfolding(cx_syntax_stmts::specs::Readers::while_stmt))]
     pub fn while_stmt(&self, tokens: &mut Cursor<'_, Lexeme>) -> Result<Boxed<StmtKind>, ParseStop>
-        requires below { Below self.now.left (S.pre self.now.stmt) (S.post self.now.stmt) (I.pre self.now.item) (I.post self.now.item) }
+        requires ready { R.ready self.now.rules self.now.left }
         ensures { Reads (spec.while_stmt self.now.left (deeper self.now.left) tokens.old) result tokens.new }
     {
         if !self.room() {
@@ -107,7 +104,7 @@ impl<
         }
         let at = place(tokens, Class::While)?;
         let test = condition(self.alloc, tokens, self.left)?;
-        let body = self.stmt_below(tokens)?;
+        let body = self.rules.stmt(self.alloc, tokens, self.left)?;
         Ok(while_of(self.alloc, at, test, body)?)
     }
 
@@ -115,14 +112,14 @@ impl<
     #[inline(never)]
     #[tactic(auto, unfolding(cx_syntax_stmts::specs::Readers::do_stmt))]
     pub fn do_stmt(&self, tokens: &mut Cursor<'_, Lexeme>) -> Result<Boxed<StmtKind>, ParseStop>
-        requires below { Below self.now.left (S.pre self.now.stmt) (S.post self.now.stmt) (I.pre self.now.item) (I.post self.now.item) }
+        requires ready { R.ready self.now.rules self.now.left }
         ensures { Reads (spec.do_stmt self.now.left (deeper self.now.left) tokens.old) result tokens.new }
     {
         if !self.room() {
             return Err(tokens.too_deep());
         }
         let at = place(tokens, Class::Do)?;
-        let body = self.stmt_below(tokens)?;
+        let body = self.rules.stmt(self.alloc, tokens, self.left)?;
         let test = do_end(self.alloc, tokens, self.left)?;
         Ok(do_of(self.alloc, at, body, test)?)
     }
@@ -131,14 +128,14 @@ impl<
     #[inline(never)]
     #[tactic(auto, unfolding(cx_syntax_stmts::specs::Readers::for_stmt))]
     pub fn for_stmt(&self, tokens: &mut Cursor<'_, Lexeme>) -> Result<Boxed<StmtKind>, ParseStop>
-        requires below { Below self.now.left (S.pre self.now.stmt) (S.post self.now.stmt) (I.pre self.now.item) (I.post self.now.item) }
+        requires ready { R.ready self.now.rules self.now.left }
         ensures { Reads (spec.for_stmt self.now.left (deeper self.now.left) tokens.old) result tokens.new }
     {
         if !self.room() {
             return Err(tokens.too_deep());
         }
         let (at, head) = for_begin(self.alloc, tokens, self.left)?;
-        let body = self.stmt_below(tokens)?;
+        let body = self.rules.stmt(self.alloc, tokens, self.left)?;
         Ok(for_of(self.alloc, at, head, body)?)
     }
 }

@@ -2,19 +2,20 @@
 
 ghost use Rattle.std.specs.Prelude.{◌≡◌, true, IfOk};
 ghost use Rattle.cx_grammar.specs.Reads.{Reads};
-ghost use Rattle.cx_parser_stmts.specs.Below.{Below};
 ghost use Rattle.cx_parser_stmts.specs.Parts as parts;
 ghost use Rattle.cx_syntax_stmts.specs.Readers as spec;
 ghost use Rattle.cx_syntax_stmts.specs.Readers.{deeper};
 ghost use Rattle.cx_syntax_stmts.specs.Values as values;
 
-use crate::statements::Statements;
+use crate::exprs::condition;
+use crate::labels::label;
+use crate::sets::{StartsLabel, StartsSwitchItem};
+use crate::statements::{Nested, Statements};
 use cx_base::List;
 use cx_grammar::{Cursor, ParseStop, Part, read_many};
-use cx_parser_heads::{StartsLabel, StartsSwitchItem, condition, label};
 use cx_parser_names::{is_there, maybe_one};
 use cx_syntax::{Class, Lexeme};
-use cx_tree::{Expr, Item, Stmt, StmtKind, SwitchItem};
+use cx_tree::{Expr, Stmt, StmtKind, SwitchItem};
 use sqlite_items::Boxed;
 use std::alloc::{AllocError, Global};
 
@@ -45,51 +46,35 @@ fn switch_of(
     Boxed::new(alloc, StmtKind::Switch(test.into_inner(), items))
 }
 
-// `switch` and its condition.
-#[inline(never)]
-fn switch_head(
-    alloc: Global,
-    tokens: &mut Cursor<'_, Lexeme>,
-    left: usize,
-) -> Result<Boxed<Expr>, ParseStop>
-    ensures { Reads (parts.switch_head left tokens.old) result tokens.new }
-{
-    tokens.expect(&Class::Switch)?;
-    condition(alloc, tokens, left)
-}
-
-impl<
-    S: Fn(Global, &mut Cursor<'_, Lexeme>, usize) -> Result<Boxed<Stmt>, ParseStop>,
-    I: Fn(Global, &mut Cursor<'_, Lexeme>, usize) -> Result<Boxed<Item>, ParseStop>,
-> Statements<S, I> {
+impl<R: Nested> Statements<R> {
     #[inline(never)]
     fn if_part(&self, tokens: &mut Cursor<'_, Lexeme>) -> Result<Condition, ParseStop>
         requires room { spec.room self.now.left ≡ true }
-        requires below { Below self.now.left (S.pre self.now.stmt) (S.post self.now.stmt) (I.pre self.now.item) (I.post self.now.item) }
+        requires ready { R.ready self.now.rules self.now.left }
         ensures { Reads (spec.if_part self.now.left (deeper self.now.left) tokens.old) result tokens.new }
     {
         tokens.expect(&Class::If)?;
         let word = maybe_one(tokens, Class::Constexpr)?;
         let test = condition(self.alloc, tokens, self.left)?;
-        let body = self.stmt_below(tokens)?;
+        let body = self.rules.stmt(self.alloc, tokens, self.left)?;
         Ok((word, (test, body)))
     }
 
     #[inline(never)]
     fn else_part(&self, tokens: &mut Cursor<'_, Lexeme>) -> Result<Boxed<Stmt>, ParseStop>
         requires room { spec.room self.now.left ≡ true }
-        requires below { Below self.now.left (S.pre self.now.stmt) (S.post self.now.stmt) (I.pre self.now.item) (I.post self.now.item) }
+        requires ready { R.ready self.now.rules self.now.left }
         ensures { Reads (spec.else_part self.now.left (deeper self.now.left) tokens.old) result tokens.new }
     {
         tokens.expect(&Class::Else)?;
-        self.stmt_below(tokens)
+        self.rules.stmt(self.alloc, tokens, self.left)
     }
 
     /// `if`: an `else` behind its statement is its own ([stmt.if]).
     #[inline(never)]
     #[tactic(auto, unfolding(cx_syntax_stmts::specs::Readers::if_stmt))]
     pub fn if_stmt(&self, tokens: &mut Cursor<'_, Lexeme>) -> Result<Boxed<StmtKind>, ParseStop>
-        requires below { Below self.now.left (S.pre self.now.stmt) (S.post self.now.stmt) (I.pre self.now.item) (I.post self.now.item) }
+        requires ready { R.ready self.now.rules self.now.left }
         ensures { Reads (spec.if_stmt self.now.left (deeper self.now.left) tokens.old) result tokens.new }
     {
         if !self.room() {
@@ -103,25 +88,11 @@ impl<
         Ok(if_of(self.alloc, head, Some(other))?)
     }
 
-    #[inline(never)]
-    #[tactic(auto, unfolding(cx_syntax_stmts::specs::Readers::switch_item))]
-    fn switch_item(&self, tokens: &mut Cursor<'_, Lexeme>) -> Result<SwitchItem, ParseStop>
-        requires room { spec.room self.now.left ≡ true }
-        requires below { Below self.now.left (S.pre self.now.stmt) (S.post self.now.stmt) (I.pre self.now.item) (I.post self.now.item) }
-        ensures { Reads (spec.switch_item self.now.left (deeper self.now.left) tokens.old) result tokens.new }
-    {
-        if tokens.sees(&StartsLabel) {
-            Ok(SwitchItem::Label(label(self.alloc, tokens, self.left)?))
-        } else {
-            Ok(SwitchItem::Item(self.item_below(tokens)?.into_inner()))
-        }
-    }
-
     // Labels and items in braces.
     #[inline(never)]
     fn switch_body(&self, tokens: &mut Cursor<'_, Lexeme>) -> Result<List<SwitchItem>, ParseStop>
         requires room { spec.room self.now.left ≡ true }
-        requires below { Below self.now.left (S.pre self.now.stmt) (S.post self.now.stmt) (I.pre self.now.item) (I.post self.now.item) }
+        requires ready { R.ready self.now.rules self.now.left }
         ensures { Reads (parts.switch_body self.now.left tokens.old) result tokens.new }
     {
         tokens.expect(&Class::OpenBrace)?;
@@ -139,13 +110,14 @@ impl<
     #[inline(never)]
     #[tactic(auto, unfolding(cx_syntax_stmts::specs::Readers::switch_stmt))]
     pub fn switch_stmt(&self, tokens: &mut Cursor<'_, Lexeme>) -> Result<Boxed<StmtKind>, ParseStop>
-        requires below { Below self.now.left (S.pre self.now.stmt) (S.post self.now.stmt) (I.pre self.now.item) (I.post self.now.item) }
+        requires ready { R.ready self.now.rules self.now.left }
         ensures { Reads (spec.switch_stmt self.now.left (deeper self.now.left) tokens.old) result tokens.new }
     {
         if !self.room() {
             return Err(tokens.too_deep());
         }
-        let test = switch_head(self.alloc, tokens, self.left)?;
+        tokens.expect(&Class::Switch)?;
+        let test = condition(self.alloc, tokens, self.left)?;
         let items = self.switch_body(tokens)?;
         Ok(switch_of(self.alloc, test, items)?)
     }
@@ -153,22 +125,28 @@ impl<
 
 /// What stands in the braces of a `switch`, as a part that a loop reads.
 #[derive(Drop)]
-struct SwitchPart<'g, S, I> {
-    statements: &'g Statements<S, I>,
+struct SwitchPart<'g, R> {
+    statements: &'g Statements<R>,
 }
 
-impl<
-    'g,
-    S: Fn(Global, &mut Cursor<'_, Lexeme>, usize) -> Result<Boxed<Stmt>, ParseStop>,
-    I: Fn(Global, &mut Cursor<'_, Lexeme>, usize) -> Result<Boxed<Item>, ParseStop>,
-> Part<Lexeme> for SwitchPart<'g, S, I> {
+impl<'g, R: Nested> Part<Lexeme> for SwitchPart<'g, R> {
     type Value = SwitchItem;
 
-    ghost ready = { λ s. (spec.room s.statements.now.left ≡ true) × Below s.statements.now.left (S.pre s.statements.now.stmt) (S.post s.statements.now.stmt) (I.pre s.statements.now.item) (I.post s.statements.now.item) };
+    ghost ready = { λ s. (spec.room s.statements.now.left ≡ true) × R.ready s.statements.now.rules s.statements.now.left };
 
     ghost reader = { λ s. spec.switch_item s.statements.now.left (deeper s.statements.now.left) };
 
+    #[tactic(auto, unfolding(cx_syntax_stmts::specs::Readers::switch_item))]
     fn read(&self, tokens: &mut Cursor<'_, Lexeme>) -> Result<SwitchItem, ParseStop> {
-        self.statements.switch_item(tokens)
+        let statements = self.statements;
+        if tokens.sees(&StartsLabel) {
+            let label = label(statements.alloc, tokens, statements.left)?;
+            Ok(SwitchItem::Label(label))
+        } else {
+            let item = statements
+                .rules
+                .item(statements.alloc, tokens, statements.left)?;
+            Ok(SwitchItem::Item(item.into_inner()))
+        }
     }
 }

@@ -1,6 +1,6 @@
 //! Initializers ([dcl.init]).
 
-ghost use Rattle.std.specs.Prelude.{◌≡◌, option_map};
+ghost use Rattle.std.specs.Prelude.{◌≡◌};
 ghost use Rattle.cx_grammar.specs.Reads.{Reads};
 ghost use Rattle.cx_parser_vars.specs.Parts as parts;
 ghost use Rattle.cx_syntax_vars.specs.Ahead as ahead;
@@ -48,26 +48,6 @@ fn equals_value(
     }
 }
 
-fn equals(
-    alloc: Global,
-    tokens: &mut Cursor<'_, Lexeme>,
-    left: usize,
-) -> Result<InitKind, ParseStop>
-    ensures { Reads (spec.equals left tokens.old) result tokens.new }
-{
-    tokens.expect(&Class::Equal)?;
-    equals_value(alloc, tokens, left)
-}
-
-fn left_of(rest: Option<&[Lexeme]>) -> Option<usize>
-    ensures { result ≡ ahead.left_of (option_map (λ t. t.now) rest.entry) }
-{
-    match rest {
-        Some([]) | None => None,
-        Some(rest) => Some(rest.len()),
-    }
-}
-
 // How many tokens are left where a list begins with a word, or behind a type's name at its start.
 fn type_made_at(tokens: &[Lexeme]) -> Option<usize>
     ensures { result ≡ ahead.type_made_at tokens.now }
@@ -75,28 +55,25 @@ fn type_made_at(tokens: &[Lexeme]) -> Option<usize>
     if sees(&AnyTypeWord, tokens) {
         return Some(tokens.len());
     }
-    left_of(qtype_end(tokens))
-}
-
-// The same, or where no argument begins: so many tokens are left from the fault on.
-fn no_args_at(tokens: &[Lexeme]) -> Option<usize>
-    ensures { result ≡ parts.no_args_at tokens.now }
-{
-    let made = type_made_at(tokens);
-    if made.is_none() && !sees(&StartsAssign, tokens) {
-        return Some(tokens.len());
+    match qtype_end(tokens) {
+        Some([]) | None => None,
+        Some(rest) => Some(rest.len()),
     }
-    made
 }
 
-// The same behind `(`.
+// The same behind `(`, or where no argument begins: so many tokens are left from the fault on.
 fn refused_at(tokens: &[Lexeme]) -> Option<usize>
     ensures { result ≡ parts.refused_at tokens.now }
 {
     if !sees(&Class::OpenParen, tokens) {
         return None;
     }
-    no_args_at(behind(tokens))
+    let inside = behind(tokens);
+    let made = type_made_at(inside);
+    if made.is_none() && !sees(&StartsAssign, inside) {
+        return Some(inside.len());
+    }
+    made
 }
 
 #[inline(never)]
@@ -128,7 +105,8 @@ fn init_kind(
     if tokens.sees(&Class::OpenParen) {
         Ok(InitKind::Args(paren_init(alloc, tokens, left)?))
     } else if tokens.sees(&Class::Equal) {
-        equals(alloc, tokens, left)
+        tokens.expect(&Class::Equal)?;
+        equals_value(alloc, tokens, left)
     } else {
         Ok(InitKind::Braces(braces(alloc, tokens, left)?))
     }

@@ -4,11 +4,11 @@ ghost use Rattle.std.specs.Prelude.{◌≡◌};
 ghost use Rattle.cx_grammar.specs.Reads.{Reads};
 ghost use Rattle.cx_syntax_vars.specs.Readers as spec;
 
+use crate::attributes::attrs;
 use crate::specifiers::{TypeNext, specs_before};
 use crate::variables::vars;
 use cx_base::List;
 use cx_grammar::{Cursor, ParseStop};
-use cx_parser_parts::attrs;
 use cx_syntax::{Class, Lexeme, span_of};
 use cx_tree::{Local, Specs, Var};
 use std::alloc::Global;

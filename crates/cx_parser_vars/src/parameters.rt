@@ -5,6 +5,7 @@ ghost use Rattle.cx_grammar.specs.Reads.{Reads};
 ghost use Rattle.cx_parser_vars.specs.Parts as parts;
 ghost use Rattle.cx_syntax_vars.specs.Readers as spec;
 
+use crate::attributes::attrs;
 use crate::below::{assign_below, room};
 use crate::specifiers::{TypeNext, specs_before};
 use cx_ahead::Id;
@@ -12,27 +13,12 @@ use cx_base::List;
 use cx_grammar::{Cursor, ParseStop, Part};
 use cx_parser::bounds;
 use cx_parser_names::{ident, ptrs, read_more};
-use cx_parser_parts::attrs;
 use cx_syntax::{Class, Lexeme, span_of};
 use cx_tree::{Expr, Ident, Param};
 use std::alloc::Global;
 
 #[inline(never)]
 #[tactic(auto, unfolding(cx_syntax_vars::specs::Readers::default_argument))]
-fn default_argument(
-    alloc: Global,
-    tokens: &mut Cursor<'_, Lexeme>,
-    left: usize,
-) -> Result<Expr, ParseStop>
-    ensures { Reads (spec.default_argument left tokens.old) result tokens.new }
-{
-    if !room(left) {
-        return Err(tokens.too_deep());
-    }
-    tokens.expect(&Class::Equal)?;
-    Ok(assign_below(alloc, tokens, left)?.into_inner())
-}
-
 fn maybe_default(
     alloc: Global,
     tokens: &mut Cursor<'_, Lexeme>,
@@ -43,7 +29,11 @@ fn maybe_default(
     if !tokens.sees(&Class::Equal) {
         return Ok(None);
     }
-    Ok(Some(default_argument(alloc, tokens, left)?))
+    if !room(left) {
+        return Err(tokens.too_deep());
+    }
+    tokens.expect(&Class::Equal)?;
+    Ok(Some(assign_below(alloc, tokens, left)?.into_inner()))
 }
 
 fn maybe_id(alloc: Global, tokens: &mut Cursor<'_, Lexeme>) -> Result<Option<Ident>, ParseStop>

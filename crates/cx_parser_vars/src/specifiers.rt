@@ -89,18 +89,6 @@ fn type_or_none(ty: Option<SpecsType>) -> SpecsType
     }
 }
 
-fn specs_parts<F: Follows>(
-    alloc: Global,
-    tokens: &mut Cursor<'_, Lexeme>,
-    follows: &F,
-) -> Result<(List<Modifier>, Option<SpecsType>), ParseStop>
-    ensures { Reads (spec.specs_parts (F.holds follows.now) tokens.old) result tokens.new }
-{
-    let modifiers = modifiers(alloc, tokens)?;
-    let ty = type_behind(alloc, tokens, follows, &modifiers)?;
-    Ok((modifiers, ty))
-}
-
 /// Specifiers before a declarator, whose type is there where the test says that it follows ([dcl.spec]).
 #[inline(never)]
 #[tactic(auto, unfolding(cx_syntax_vars::specs::Readers::specs_before))]
@@ -112,7 +100,8 @@ pub fn specs_before<F: Follows>(
     ensures { Reads (spec.specs_before (F.holds follows.now) tokens.old) result tokens.new }
 {
     let from = tokens.rest();
-    let (modifiers, ty) = specs_parts(alloc, tokens, follows)?;
+    let modifiers = modifiers(alloc, tokens)?;
+    let ty = type_behind(alloc, tokens, follows, &modifiers)?;
     Ok(Specs {
         modifiers,
         ty: type_or_none(ty),

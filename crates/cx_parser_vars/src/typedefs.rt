@@ -9,7 +9,7 @@ use cx_ahead::Type;
 use cx_grammar::{Cursor, ParseStop};
 use cx_parser_names::{ident, ptrs};
 use cx_syntax::{Class, Lexeme, span_of};
-use cx_tree::{Ident, Ptrs, Specs, Typedef};
+use cx_tree::{Ident, Ptrs, Typedef};
 use std::alloc::Global;
 
 // What stands behind the specifiers.
@@ -22,18 +22,6 @@ fn typedef_end(alloc: Global, tokens: &mut Cursor<'_, Lexeme>) -> Result<(Ptrs, 
     Ok((ptrs, name))
 }
 
-fn typedef_parts(
-    alloc: Global,
-    tokens: &mut Cursor<'_, Lexeme>,
-) -> Result<(Specs, (Ptrs, Ident)), ParseStop>
-    ensures { Reads (spec.typedef_parts tokens.old) result tokens.new }
-{
-    tokens.expect(&Class::Typedef)?;
-    let specs = specs_before(alloc, tokens, &AliasedNext)?;
-    let end = typedef_end(alloc, tokens)?;
-    Ok((specs, end))
-}
-
 /// `typedef` ([dcl.typedef]).
 #[inline(never)]
 #[tactic(auto, unfolding(cx_syntax_vars::specs::Readers::typedef))]
@@ -41,7 +29,9 @@ pub fn typedef(alloc: Global, tokens: &mut Cursor<'_, Lexeme>) -> Result<Typedef
     ensures { Reads (spec.typedef tokens.old) result tokens.new }
 {
     let from = tokens.rest();
-    let (specs, (ptrs, name)) = typedef_parts(alloc, tokens)?;
+    tokens.expect(&Class::Typedef)?;
+    let specs = specs_before(alloc, tokens, &AliasedNext)?;
+    let (ptrs, name) = typedef_end(alloc, tokens)?;
     Ok(Typedef {
         specs,
         ptrs,

@@ -4,34 +4,27 @@ ghost use Rattle.std.specs.Prelude.{◌≡◌};
 ghost use Rattle.cx_grammar.specs.Reads.{Reads};
 ghost use Rattle.cx_syntax_vars.specs.Readers as spec;
 
+use crate::attributes::{attribute, counted};
 use crate::inits::{StartsInit, init};
 use cx_ahead::Id;
 use cx_base::List;
 use cx_grammar::{Cursor, ParseStop, Part};
 use cx_parser::bounds;
 use cx_parser_names::{ident, ptrs, read_more};
-use cx_parser_parts::{attribute, counted};
 use cx_syntax::{Class, Lexeme, span_of};
 use cx_tree::{Init, Var};
 use std::alloc::Global;
-
-fn attributes_behind(tokens: &mut Cursor<'_, Lexeme>, left: usize) -> Result<usize, ParseStop>
-    ensures { Reads (spec.name_attrs left tokens.old) result tokens.new }
-{
-    let mut most: usize = 0;
-    while tokens.sees_two(&Class::OpenBracket, &Class::OpenBracket) {
-        most = most.max(attribute(tokens, left)?);
-    }
-    Ok(most)
-}
 
 // Attributes behind a name: `[` with no other behind it is a bound's.
 #[inline(never)]
 fn name_attrs(tokens: &mut Cursor<'_, Lexeme>, left: usize) -> Result<u32, ParseStop>
     ensures { Reads (spec.name_attrs left tokens.old) result tokens.new }
 {
-    let levels = attributes_behind(tokens, left)?;
-    counted(levels)
+    let mut most: usize = 0;
+    while tokens.sees_two(&Class::OpenBracket, &Class::OpenBracket) {
+        most = most.max(attribute(tokens, left)?);
+    }
+    counted(most)
 }
 
 fn maybe_init(

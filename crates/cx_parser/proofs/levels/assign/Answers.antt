@@ -3,4 +3,4 @@ use Rattle.cx_syntax.proofs.Exact.{exactly_assign}
 use Rattle.cx_parser.proofs.levels.assign.Goals as goal
 
 pub returns-clause-begins : goal.returns-clause-begins
-returns-clause-begins c = begins_of (exactly_assign c.args.left) c.args.tokens.now c.assign_within.result c.assign_within.new.tokens c.assign_within.ensures
+returns-clause-begins c = begins_of (exactly_assign c.args.left) c.args.tokens.now c.expr_within.result c.expr_within.new.tokens c.expr_within.ensures

@@ -3,4 +3,4 @@ use Rattle.cx_syntax.proofs.Exact.{exactly_cond}
 use Rattle.cx_parser.proofs.levels.cond.Goals as goal
 
 pub returns-clause-begins : goal.returns-clause-begins
-returns-clause-begins c = begins_of (exactly_cond c.args.left) c.args.tokens.now c.cond_within.result c.cond_within.new.tokens c.cond_within.ensures
+returns-clause-begins c = begins_of (exactly_cond c.args.left) c.args.tokens.now c.expr_within.result c.expr_within.new.tokens c.expr_within.ensures

@@ -1,0 +1,6 @@
+use Rattle.cx_parser.proofs.RuleLengths.{short_more, kept}
+use Rattle.cx_syntax.specs.Readers.{deeper}
+use Rattle.cx_parser.proofs.grammar.Grammar.postfix.Goals as goal
+
+pub read_many-requires-clause-shortens : goal.read_many-requires-clause-shortens
+read_many-requires-clause-shortens g c = short_more (deeper c.args.self.now.left) (kept c.args.self.now.left)

@@ -1,3 +1,0 @@
-pub mod Enumerators
-pub mod Greatest
-pub mod Soups

@@ -1,5 +1,0 @@
-use Rattle.cx_parser_parts.proofs.Soups.{room_is}
-use Rattle.cx_parser_parts.proofs.attributes.room.Goals as goal
-
-pub returns : goal.returns
-returns c = room_is c.args.left
