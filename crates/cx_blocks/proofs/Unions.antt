@@ -162,7 +162,9 @@ module _ (ns : List Node) (ks : List ℕ) (f : Form) (described : Described ns k
         pub start : part.under.offset ≡ 1
         pub kind : kind_of a.form ≡ part.kind
         pub cells_are : part.cells ≡ cells a.form
-        pub within : cells a.form ≤ cells_in true ms
+        -- the member lies in the union, and the union in the whole
+        pub inside : part.under.offset + part.cells ≤ row.cells
+        pub room : at.slot + row.cells ≤ cells f
 
       pub member_node : (node : ℕ) → slice_get ks (row.members_from + m) ≡ Some node → node ≡ at.node + 1 + a.node
       member_node node l = some_inj node (at.node + 1 + a.node) (sym l ∙ member_listed)
@@ -177,12 +179,16 @@ module _ (ns : List Node) (ks : List ℕ) (f : Form) (described : Described ns k
           let laid : Laid ns ks node a.form = subst (λ k. Laid ns ks k a.form) (sym n) u.laid in
           let k = laid_node ns ks node a.form laid in
           let i = (item_inside true ms m a is_a).in_cells in
+          let e = node_cells ns ks node a.form part laid p in
+          let v = union_cells in
+          let w = union_within in
           record {
             laid = laid;
             start = omega arith;
             kind = sym k.kind ∙ ap (λ (x : Node). x.kind) (some_inj k.row part (sym k.is_row ∙ p));
-            cells_are = node_cells ns ks node a.form part laid p;
-            within = omega arith;
+            cells_are = e;
+            inside = omega arith;
+            room = omega arith;
           }
 
       pub member_there : (node : ℕ) → slice_get ks (row.members_from + m) ≡ Some node → node < length ns

@@ -8,7 +8,7 @@ use Rattle.cx_blocks.specs.Walks.{is_class_kind}
 use Rattle.cx_layout.proofs.Filling.{get_within}
 use Rattle.cx_blocks.proofs.Filling.{laid_there}
 use Rattle.cx_blocks.proofs.Accesses.{not_true, not_false}
-use Rattle.cx_blocks.proofs.Unions.{union_form, union_laid, union_within, union_cells, union_not, member_listed, member_there, member_is, some_cells, activates_not, activates}
+use Rattle.cx_blocks.proofs.Unions.{union_form, union_laid, union_cells, union_not, member_listed, member_there, member_is, some_cells, activates_not, activates}
 use Rattle.cx_blocks.proofs.union.activate_at.Goals as goal
 
 pub returns-then-not-found : goal.returns-then-not-found
@@ -28,9 +28,8 @@ overflow_add-start c =
     let i = member_is c.args.columns.now.nodes.items c.args.columns.now.parts.items (columns_form c.args.columns.now) c.requires.table c.args.at c.requires.union.union.steps c.requires.union.union.class c.requires.union.union.members c.requires.union.union.is_at c.node-row.result c.node-row.ensures c.args.member c.requires.union.part c.requires.union.is_part c.listed-node.result c.node-part.result c.listed-node.ensures c.node-part.ensures in
     let a = i.start in
     let b = i.cells_are in
-    let g = i.within in
-    let w = union_within c.args.columns.now.nodes.items c.args.columns.now.parts.items (columns_form c.args.columns.now) c.requires.table c.args.at c.requires.union.union.steps c.requires.union.union.class c.requires.union.union.members c.requires.union.union.is_at in
-    let d = union_cells c.args.columns.now.nodes.items c.args.columns.now.parts.items (columns_form c.args.columns.now) c.requires.table c.args.at c.requires.union.union.steps c.requires.union.union.class c.requires.union.union.members c.requires.union.union.is_at c.node-row.result c.node-row.ensures in
+    let g = i.inside in
+    let r = i.room in
     let s = c.requires.slots in
     let z = c.requires.table.few_cells in
     omega arith
@@ -40,9 +39,8 @@ stays-requires c =
     let i = member_is c.args.columns.now.nodes.items c.args.columns.now.parts.items (columns_form c.args.columns.now) c.requires.table c.args.at c.requires.union.union.steps c.requires.union.union.class c.requires.union.union.members c.requires.union.union.is_at c.node-row.result c.node-row.ensures c.args.member c.requires.union.part c.requires.union.is_part c.listed-node.result c.node-part.result c.listed-node.ensures c.node-part.ensures in
     let a = i.start in
     let b = i.cells_are in
-    let g = i.within in
-    let w = union_within c.args.columns.now.nodes.items c.args.columns.now.parts.items (columns_form c.args.columns.now) c.requires.table c.args.at c.requires.union.union.steps c.requires.union.union.class c.requires.union.union.members c.requires.union.union.is_at in
-    let d = union_cells c.args.columns.now.nodes.items c.args.columns.now.parts.items (columns_form c.args.columns.now) c.requires.table c.args.at c.requires.union.union.steps c.requires.union.union.class c.requires.union.union.members c.requires.union.union.is_at c.node-row.result c.node-row.ensures in
+    let g = i.inside in
+    let r = i.room in
     let s = c.requires.slots in
     let z = c.requires.table.few_cells in
     record { header = omega arith; first = λ q. let h = some_cells c.requires.union.part.form (subst (λ t. is_class_kind t ≡ true) (sym i.kind) q) in omega arith }
@@ -57,9 +55,8 @@ bounds-slots-at c =
     let i = member_is c.args.columns.now.nodes.items c.args.columns.now.parts.items (columns_form c.args.columns.now) c.requires.table c.args.at c.requires.union.union.steps c.requires.union.union.class c.requires.union.union.members c.requires.union.union.is_at c.node-row.result c.node-row.ensures c.args.member c.requires.union.part c.requires.union.is_part c.listed-node.result c.node-part.result c.listed-node.ensures c.node-part.ensures in
     let a = i.start in
     let b = i.cells_are in
-    let g = i.within in
-    let w = union_within c.args.columns.now.nodes.items c.args.columns.now.parts.items (columns_form c.args.columns.now) c.requires.table c.args.at c.requires.union.union.steps c.requires.union.union.class c.requires.union.union.members c.requires.union.union.is_at in
-    let d = union_cells c.args.columns.now.nodes.items c.args.columns.now.parts.items (columns_form c.args.columns.now) c.requires.table c.args.at c.requires.union.union.steps c.requires.union.union.class c.requires.union.union.members c.requires.union.union.is_at c.node-row.result c.node-row.ensures in
+    let g = i.inside in
+    let r = i.room in
     let s = c.requires.slots in
     let z = c.requires.table.few_cells in
     omega arith
@@ -69,9 +66,8 @@ fill-requires c =
     let i = member_is c.args.columns.now.nodes.items c.args.columns.now.parts.items (columns_form c.args.columns.now) c.requires.table c.args.at c.requires.union.union.steps c.requires.union.union.class c.requires.union.union.members c.requires.union.union.is_at c.node-row.result c.node-row.ensures c.args.member c.requires.union.part c.requires.union.is_part c.listed-node.result c.node-part.result c.listed-node.ensures c.node-part.ensures in
     let a = i.start in
     let b = i.cells_are in
-    let g = i.within in
-    let w = union_within c.args.columns.now.nodes.items c.args.columns.now.parts.items (columns_form c.args.columns.now) c.requires.table c.args.at c.requires.union.union.steps c.requires.union.union.class c.requires.union.union.members c.requires.union.union.is_at in
-    let d = union_cells c.args.columns.now.nodes.items c.args.columns.now.parts.items (columns_form c.args.columns.now) c.requires.table c.args.at c.requires.union.union.steps c.requires.union.union.class c.requires.union.union.members c.requires.union.union.is_at c.node-row.result c.node-row.ensures in
+    let g = i.inside in
+    let r = i.room in
     let s = c.requires.slots in
     let z = c.requires.table.few_cells in
     let y = length-set c.args.slots.now c.args.at.slot (view.Active (Some c.args.member)) in
@@ -84,9 +80,8 @@ overflow_add-start-2 c =
     let i = member_is c.args.columns.now.nodes.items c.args.columns.now.parts.items (columns_form c.args.columns.now) c.requires.table c.args.at c.requires.union.union.steps c.requires.union.union.class c.requires.union.union.members c.requires.union.union.is_at c.node-row.result c.node-row.ensures c.args.member c.requires.union.part c.requires.union.is_part c.listed-node.result c.node-part.result c.listed-node.ensures c.node-part.ensures in
     let a = i.start in
     let b = i.cells_are in
-    let g = i.within in
-    let w = union_within c.args.columns.now.nodes.items c.args.columns.now.parts.items (columns_form c.args.columns.now) c.requires.table c.args.at c.requires.union.union.steps c.requires.union.union.class c.requires.union.union.members c.requires.union.union.is_at in
-    let d = union_cells c.args.columns.now.nodes.items c.args.columns.now.parts.items (columns_form c.args.columns.now) c.requires.table c.args.at c.requires.union.union.steps c.requires.union.union.class c.requires.union.union.members c.requires.union.union.is_at c.node-row.result c.node-row.ensures in
+    let g = i.inside in
+    let r = i.room in
     let s = c.requires.slots in
     let z = c.requires.table.few_cells in
     omega arith
@@ -96,9 +91,8 @@ overflow_add-at c =
     let i = member_is c.args.columns.now.nodes.items c.args.columns.now.parts.items (columns_form c.args.columns.now) c.requires.table c.args.at c.requires.union.union.steps c.requires.union.union.class c.requires.union.union.members c.requires.union.union.is_at c.node-row.result c.node-row.ensures c.args.member c.requires.union.part c.requires.union.is_part c.listed-node.result c.node-part.result c.listed-node.ensures c.node-part.ensures in
     let a = i.start in
     let b = i.cells_are in
-    let g = i.within in
-    let w = union_within c.args.columns.now.nodes.items c.args.columns.now.parts.items (columns_form c.args.columns.now) c.requires.table c.args.at c.requires.union.union.steps c.requires.union.union.class c.requires.union.union.members c.requires.union.union.is_at in
-    let d = union_cells c.args.columns.now.nodes.items c.args.columns.now.parts.items (columns_form c.args.columns.now) c.requires.table c.args.at c.requires.union.union.steps c.requires.union.union.class c.requires.union.union.members c.requires.union.union.is_at c.node-row.result c.node-row.ensures in
+    let g = i.inside in
+    let r = i.room in
     let s = c.requires.slots in
     let z = c.requires.table.few_cells in
     omega arith
@@ -108,9 +102,8 @@ blank-requires c =
     let i = member_is c.args.columns.now.nodes.items c.args.columns.now.parts.items (columns_form c.args.columns.now) c.requires.table c.args.at c.requires.union.union.steps c.requires.union.union.class c.requires.union.union.members c.requires.union.union.is_at c.node-row.result c.node-row.ensures c.args.member c.requires.union.part c.requires.union.is_part c.listed-node.result c.node-part.result c.listed-node.ensures c.node-part.ensures in
     let a = i.start in
     let b = i.cells_are in
-    let g = i.within in
-    let w = union_within c.args.columns.now.nodes.items c.args.columns.now.parts.items (columns_form c.args.columns.now) c.requires.table c.args.at c.requires.union.union.steps c.requires.union.union.class c.requires.union.union.members c.requires.union.union.is_at in
-    let d = union_cells c.args.columns.now.nodes.items c.args.columns.now.parts.items (columns_form c.args.columns.now) c.requires.table c.args.at c.requires.union.union.steps c.requires.union.union.class c.requires.union.union.members c.requires.union.union.is_at c.node-row.result c.node-row.ensures in
+    let g = i.inside in
+    let r = i.room in
     let s = c.requires.slots in
     let z = c.requires.table.few_cells in
     let y = length-set c.args.slots.now c.args.at.slot (view.Active (Some c.args.member)) in
