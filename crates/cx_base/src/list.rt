@@ -2,6 +2,7 @@ ghost use Rattle.std.specs.Prelude.{◌≡◌, ◌<◌, [], ◌∷◌, ◌++◌,
 
 use crate::Memory;
 use std::alloc::Global;
+use std::cmp::max;
 use std::marker::Model;
 
 /// A `Vec` that contracts see as the list of its items.
@@ -62,11 +63,16 @@ impl<T> List<T> {
 }
 
 impl<T: Drop> List<T> {
-    /// Puts an item at the end. A refused push changes nothing, and drops the item.
+    /// Puts an item at the end. A refused push changes nothing, and drops the item. Room is doubled from one item on, since most lists of a
+    /// tree have one or two.
     pub fn push(&mut self, item: T) -> Result<(), Memory>
         ensures ok { OnOk result (self.new ≡ self.old ++ item ∷ []) }
         ensures err { OnErr result (self.new ≡ self.old) }
     {
+        let len = self.items.len();
+        if len == self.items.capacity() && self.items.reserve_exact(max(len, 1)).is_err() {
+            return Err(Memory);
+        }
         match self.items.push(item) {
             Ok(()) => Ok(()),
             Err(_) => Err(Memory),
