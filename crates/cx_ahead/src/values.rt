@@ -11,22 +11,22 @@ use cx_syntax::{Class, Lexeme};
 use cx_token_defs::TokenKind;
 use cx_tree::{
     AssignOp, BinaryOp, CastWord, ClassKey, Elaboration, ExprKind, Modifier, ModifierWord,
-    MoreKind, Overloaded, PrefixOp, Reach, TypeWord, WordOrModifier,
+    MoreKind, Overloaded, PrefixOp, Reach, SimpleType, TypeWord, WordOrModifier,
 };
 
-/// The word of a type ([dcl.type.simple]).
+/// The word of a type, where it stands ([dcl.type.simple]).
 pub struct TypeWordIn;
 
 impl Pick<Lexeme> for TypeWordIn {
-    type Value = TypeWord;
+    type Value = SimpleType;
 
     ghost use Rattle.cx_syntax.specs.Sets.{is_word};
     ghost use Rattle.cx_syntax.specs.Values.{pick, word_of};
 
     ghost picks = { λ _ t. pick is_word word_of t };
 
-    fn pick(&self, token: &Lexeme) -> Option<TypeWord> {
-        Some(match token.class {
+    fn pick(&self, token: &Lexeme) -> Option<SimpleType> {
+        let word = match token.class {
             Class::Void => TypeWord::Void,
             Class::Bool => TypeWord::Bool,
             Class::Char => TypeWord::Char,
@@ -37,6 +37,10 @@ impl Pick<Lexeme> for TypeWordIn {
             Class::Unsigned => TypeWord::Unsigned,
             Class::Auto => TypeWord::Auto,
             _ => return None,
+        };
+        Some(SimpleType {
+            word,
+            span: token.span,
         })
     }
 }

@@ -1,236 +1,185 @@
--- What an access finds at a place, and what a write there changes.
-use Rattle.std.proofs.Common.{◌≡◌, ℕ, ◌+◌, ◌≤◌, Bool, true, false, true≢false, not, ◌||◌, List, [], ◌∷◌, ◌++◌, Option, None, Some, Result, Ok, Err, refl, sym, ap, subst, ◌∙◌, arith, if◌then◌else◌}
-use Rattle.std.proofs.Math.ListN.{set}
-use Rattle.std.specs.Prelude.{is_some}
+-- Reading: what bars it, and what the slots of a block that may be read show.
+use Rattle.std.proofs.Common.{◌≡◌, ℕ, suc, Bool, true, false, ◌||◌, not, List, [], ◌∷◌, length, Option, None, Some, Ok, Err, refl, sym, ap, subst, ◌∙◌, slice_get, if◌then◌else◌}
+use Rattle.std.specs.Prelude.{option_map, option_and_then, is_some}
+use Rattle.std.specs.List.{find}
 use Rattle.cx_base.specs.declared.rule.Rule.{Rule}
 use Rattle.cx_base.specs.declared.rule.Rule.TheVariants as rule
 use Rattle.cx_type_defs.specs.declared.ids.Step.{Step}
-use Rattle.cx_state.specs.declared.kind.Scalar.{Scalar}
-use Rattle.cx_state.specs.declared.kind.Scalar.TheVariants as scalar
-use Rattle.cx_state.specs.Objects.{Path, Tree, below, changed}
-use Rattle.cx_state.specs.Objects as tree
-use Rattle.cx_state.specs.Conditions.{is_dead, is_indeterminate, passes}
-use Rattle.cx_state.specs.Steps.{unless, scalar_of}
-use Rattle.cx_store.specs.Stores.{result_seen, seen}
-use Rattle.cx_layout.specs.declared.columns.Node.{Node}
+use Rattle.cx_type_defs.specs.Tables.{Tables}
+use Rattle.cx_type_defs.specs.Sound.{Sound}
+use Rattle.cx_state.specs.declared.kind.Birth.{Birth}
+use Rattle.cx_state.specs.declared.kind.Birth.TheVariants as birth
+use Rattle.cx_state.specs.Objects.{Path, Object, Objects}
+use Rattle.cx_state.specs.Conditions as on
+use Rattle.cx_state.specs.Steps.{unless, call_on, dynamic_class, with_place}
+use Rattle.cx_store.specs.Stores.{IsScalarAt, IsClassAt, IsUnionAt, HasField, IsOf, is_class_kind}
+use Rattle.cx_state.specs.Pointers.{is_union_kind}
+use Rattle.cx_type_defs.specs.declared.ids.ClassId.{ClassId}
+use Rattle.cx_type_defs.specs.declared.kind.TypeRow.{TypeRow}
+use Rattle.cx_type_defs.specs.declared.kind.TypeKind.TheVariants as kind
+use Rattle.cx_type_defs.specs.declared.ids.Step.TheVariants as step
+use Rattle.cx_state.specs.Forms.{HoldsValue}
+use Rattle.cx_state.specs.Places.{row_of, row_below, row_part, kind_part}
+use Rattle.cx_layout.specs.declared.columns.Descriptor.{Descriptor}
 use Rattle.cx_layout.specs.declared.place.Place.{Place}
-use Rattle.cx_layout.specs.Forms.{Form, Leaf, cells, Part, below_of}
-use Rattle.cx_layout.specs.Described.{Described}
-use Rattle.cx_layout.specs.Walks.{IsIn}
-use Rattle.cx_layout.proofs.Fitting.{below_inside}
+use Rattle.cx_layout.specs.Forms.{Form, Forms, Leaf, Class, End, Part, further, item, nodes_in, cells, cells_in, below_of}
+use Rattle.cx_layout.proofs.Agreeing.{Has, Both, below_both}
+use Rattle.cx_layout.specs.Described.{form_at}
 use Rattle.cx_slots.specs.declared.slot.SlotView.{SlotView}
-use Rattle.cx_slots.specs.declared.slot.SlotView.TheVariants as view
-use Rattle.cx_slots.specs.Slots.{Slot, slot_seen, slots_seen}
-use Rattle.cx_slots.specs.Slots as slot
-use Rattle.cx_slots.specs.Flat.{Fits, flat}
-use Rattle.cx_slots.specs.Fresh.{over}
-use Rattle.cx_slots.specs.Frames.{Framed}
+use Rattle.cx_slots.specs.Slots.{slots_seen}
+use Rattle.cx_slots.specs.Flat.{Stands, picture}
+use Rattle.cx_slots.specs.Fresh.{fresh}
 use Rattle.cx_slots.proofs.Lengths.{flat_length}
-use Rattle.cx_slots.proofs.Over.{over_part}
-use Rattle.cx_slots.proofs.Frames.{part_framed}
-use Rattle.cx_blocks.specs.declared.way.Found.{Found}
-use Rattle.cx_blocks.specs.Rules.{Show, IsAt, breaks, load_of, or_sealed, reach_rule, Writes}
-use Rattle.cx_blocks.specs.Walks.{slot_at, value_of, Finds, Walked}
-use Rattle.cx_blocks.proofs.Opening.{stops_is}
-use Rattle.cx_blocks.proofs.Walking.{part_head}
-use Rattle.cx_blocks.proofs.Filling.{seen_over}
+use Rattle.cx_slots.proofs.Seen.{seen_length}
+use Rattle.cx_slot_calls.specs.Rules.{Show, IsAt}
+use Rattle.cx_slot_calls.specs.Rules.{IsClassAt as IsPlainAt}
+use Rattle.cx_blocks.specs.declared.block.Block.{Block}
+use Rattle.cx_blocks.specs.Bars.{barred}
+use Rattle.cx_blocks.specs.Seen.{paths_in, phase_of, object_in, objects_in}
+use Rattle.cx_blocks.specs.Fits.{AllKnown, BlockFits, Fits}
+use Rattle.cx_blocks.proofs.Objects.{the_object}
+use Rattle.cx_blocks.proofs.Reaching.{Reached, reached}
+use Rattle.cx_blocks.proofs.KindForms.{leaf_form, plain_class, union_class}
+use Rattle.cx_blocks.proofs.Members.{MemberOf, member_of}
+use Rattle.cx_state.specs.Forms.{Knows}
 
--- the part at a place
-abbrev pub part_at : Place → Form → Part
-part_at at u = record { node = at.node; slot = at.slot; form = u }
+-- the rules of the object come first
+abbrev pub front : Bool → Bool → Bool → Rule → Option Rule → Option Rule
+front released past third name rest = if released then Some rule.Dangling else if past then Some rule.PastEnd else if third then Some name else rest
 
-module _ (f : Form) (at : Place) (u : Form) (ss : List Step) (leads : IsAt f ss at u) (some : 1 ≤ cells u) where
-  abbrev pub at_in : (ns : List Node) (ks : List ℕ) → Described ns ks f → IsIn ns ks f at.node at.slot
-  at_in ns ks d = record { described = d; steps = ss; part = part_at at u; leads = leads; node_is = refl; from = omega arith; before = λ _. omega arith }
+pub barred_some : (a b c : Bool) (n : Rule) (rest : Option Rule) (r : Rule) → barred a b c n ≡ Some r → front a b c n rest ≡ Some r
+barred_some true b c n rest r e = e
+barred_some false true c n rest r e = e
+barred_some false false true n rest r e = e
+barred_some false false false n rest r e = absurd (cc)
 
-  pub at_within : at.slot + cells u ≤ cells f
-  at_within = (below_inside f ss (part_at at u) leads).in_cells
+pub barred_none : (a b c : Bool) (n : Rule) → barred a b c n ≡ None → (a ≡ false) × (b ≡ false) × (c ≡ false)
+barred_none true b c n e = absurd (cc)
+barred_none false true c n e = absurd (cc)
+barred_none false false true n e = absurd (cc)
+barred_none false false false n e = (refl, refl, refl)
 
-  pub found_there : (l : List SlotView) (w : Found) → Walked f l at.node at.slot w → (path : Place → Path) (x : Tree) → Show path l f x → Finds x ss w
-  found_there l w walked = (walked ss (part_at at u) leads refl (omega arith) (λ _. omega arith)).1
+pub is_local : (b : Birth) → not (on.is_here b) ≡ false → b ≡ birth.Here
+is_local birth.Here e = refl
+is_local birth.Usable e = absurd (cc)
+is_local birth.Opaque e = absurd (cc)
 
--- the rules, by what is found
-module _ (f : Form) (x : Tree) (ss : List Step) (p : Part) (w : Found) (fits : Fits f x) (leads : below_of f ss ≡ Some p) (finds : Finds x ss w) where
-  pub not_there : w.there ≡ false → breaks x ss rule.InactiveMember ≡ true
-  not_there e = stops_is f x ss p fits leads ∙ ap not (sym finds.there ∙ e)
+module _ (t : Tables) (ds : List Descriptor) (bs : List Block) (at : Place) (b : Block) (is_block : slice_get bs at.block ≡ Some b) where
+  abbrev os : Objects
+  os = objects_in ds bs
 
-  pub is_there : w.there ≡ true → breaks x ss rule.InactiveMember ≡ false
-  is_there e = stops_is f x ss p fits leads ∙ ap not (sym finds.there ∙ e)
+  abbrev p : Path
+  p = paths_in ds bs at
 
-  pub what_is_there : w.there ≡ true → (y : Tree) × (below x ss ≡ Some y)
-  what_is_there e = go (below x ss) (sym finds.there ∙ e)
-    where
-      go : (o : Option Tree) → is_some o ≡ true → (y : Tree) × (o ≡ Some y)
-      go None e = absurd (true≢false (sym e))
-      go (Some y) e = (y, refl)
+  abbrev o : Object
+  o = object_in (paths_in ds bs) ds b
 
-  pub is_dead_on : w.there ≡ true → w.dead ≡ true → breaks x ss rule.OutOfLifetime ≡ true
-  is_dead_on e d = ap (λ b. b || passes is_dead (below x ss)) (sym (finds.dead e) ∙ d)
+  broken_is : (a : on.Access) → on.broken t os p a ≡ find (on.holds t o p a) (on.order a)
+  broken_is a = ap (option_and_then (λ (o : Object). find (on.holds t o p a) (on.order a))) (the_object ds bs at.block b is_block)
 
-  pub no_dead_on : w.there ≡ true → w.dead ≡ false → (y : Tree) → below x ss ≡ Some y → is_dead y ≡ false → breaks x ss rule.OutOfLifetime ≡ false
-  no_dead_on e d y b n = ap (λ b. b || passes is_dead (below x ss)) (sym (finds.dead e) ∙ d) ∙ ap (passes is_dead) b ∙ n
+  pub reading_barred : (a : on.Access) (rest : List Rule) (r : Rule) → on.order a ≡ rule.Dangling ∷ rule.PastEnd ∷ rule.NotUsable ∷ rest → barred b.released at.past (on.is_opaque b.birth) rule.NotUsable ≡ Some r → on.broken t os p a ≡ Some r
+  reading_barred a rest r e h = broken_is a ∙ ap (find (on.holds t o p a)) e ∙ barred_some b.released at.past (on.is_opaque b.birth) rule.NotUsable (find (on.holds t o p a) rest) r h
 
--- the first of three rules
-abbrev pub first_rule : Bool → Bool → Bool → Option Rule
-first_rule a b c = if a then Some rule.InactiveMember else if b then Some rule.OutOfLifetime else if c then Some rule.Indeterminate else None
+  pub writing_barred : (a : on.Access) (rest : List Rule) (r : Rule) → on.order a ≡ rule.Dangling ∷ rule.PastEnd ∷ rule.OutsideWrite ∷ rest → barred b.released at.past (not (on.is_here b.birth)) rule.OutsideWrite ≡ Some r → on.broken t os p a ≡ Some r
+  writing_barred a rest r e h = broken_is a ∙ ap (find (on.holds t o p a)) e ∙ barred_some b.released at.past (not (on.is_here b.birth)) rule.OutsideWrite (find (on.holds t o p a) rest) r h
 
-pub load_by : (x : Tree) (ss : List Step) (a b c : Bool) → breaks x ss rule.InactiveMember ≡ a → breaks x ss rule.OutOfLifetime ≡ b → breaks x ss rule.Indeterminate ≡ c → unless (first_rule a b c) (scalar_of (below x ss)) ≡ load_of x ss
-load_by x ss a b c e h k =
-    sym (ap (λ t. unless (first_rule t (breaks x ss rule.OutOfLifetime) (breaks x ss rule.Indeterminate)) (scalar_of (below x ss))) e
-    ∙ ap (λ t. unless (first_rule a t (breaks x ss rule.Indeterminate)) (scalar_of (below x ss))) h ∙ ap (λ t. unless (first_rule a b t) (scalar_of (below x ss))) k)
+  -- a call on what is there, and the class that decides
+  abbrev barred_first : Bool → Bool → Option Rule → Option Rule
+  barred_first released past rest = if released then Some rule.Dangling else if past then Some rule.PastEnd else rest
 
--- a scalar
+  pub called_dangling : b.released ≡ true → call_on t os p ≡ Err rule.Dangling
+  called_dangling e = ap (λ r. unless r tt) (broken_is on.Call ∙ ap (λ x. barred_first x at.past (find (on.holds t o p on.Call) (rule.InactiveMember ∷ rule.OutOfLifetime ∷ []))) e)
 
-pub leaf_of : (y : Tree) → Fits Leaf y → (v : Scalar Path) × (y ≡ tree.Leaf v)
-leaf_of (tree.Leaf v) h = (v, refl)
-leaf_of y h = absurd h
+  pub called_past : b.released ≡ false → at.past ≡ true → call_on t os p ≡ Err rule.PastEnd
+  called_past e h =
+      ap (λ r. unless r tt)
+      (broken_is on.Call ∙ ap (λ x. barred_first x at.past (find (on.holds t o p on.Call) (rule.InactiveMember ∷ rule.OutOfLifetime ∷ []))) e
+      ∙ ap (λ x. barred_first false x (find (on.holds t o p on.Call) (rule.InactiveMember ∷ rule.OutOfLifetime ∷ []))) h)
 
-abbrev told : Scalar Path → Result (Scalar Path) Rule
-told a = unless (if is_indeterminate (tree.Leaf a) then Some rule.Indeterminate else None) a
+  abbrev decider : Option (ClassId × Path)
+  decider = option_map (with_place p) (option_and_then (λ (o : Object). on.dynamic_in t o p.steps) (slice_get os p.object))
 
-load_value : (path : Place → Path) (v : SlotView) (z : Scalar Path) → slot_seen path v ≡ slot.Value z → result_seen (seen path) (value_of v) ≡ unless (if is_indeterminate (tree.Leaf z) then Some rule.Indeterminate else None) z
-load_value path v z e = go v e
-  where
-    value_inj : (a b : Scalar Path) → slot.Value a ≡ slot.Value b → a ≡ b
-    value_inj a b e = cc
+  pub decided_dangling : b.released ≡ true → dynamic_class t os p ≡ Err rule.Dangling
+  decided_dangling e = ap (λ r. unless r decider) (broken_is on.Dynamic ∙ ap (λ x. barred_first x at.past (find (on.holds t o p on.Dynamic) (rule.InactiveMember ∷ rule.OutOfLifetime ∷ []))) e)
 
-    go : (v : SlotView) → slot_seen path v ≡ slot.Value z → result_seen (seen path) (value_of v) ≡ told z
-    go (view.Value scalar.Indeterminate) e = ap told (value_inj scalar.Indeterminate z e)
-    go (view.Value (scalar.Int i)) e = ap told (value_inj (scalar.Int i) z e)
-    go (view.Value scalar.Null) e = ap told (value_inj scalar.Null z e)
-    go (view.Value (scalar.Place p)) e = ap told (value_inj (scalar.Place (path p)) z e)
-    go (view.Phase p) e = absurd (cc)
-    go (view.Active m) e = absurd (cc)
+  pub decided_past : b.released ≡ false → at.past ≡ true → dynamic_class t os p ≡ Err rule.PastEnd
+  decided_past e h =
+      ap (λ r. unless r decider)
+      (broken_is on.Dynamic ∙ ap (λ x. barred_first x at.past (find (on.holds t o p on.Dynamic) (rule.InactiveMember ∷ rule.OutOfLifetime ∷ []))) e
+      ∙ ap (λ x. barred_first false x (find (on.holds t o p on.Dynamic) (rule.InactiveMember ∷ rule.OutOfLifetime ∷ []))) h)
 
-module _ (f : Form) (l : List SlotView) (at : Place) (w : Found) (walked : Walked f l at.node at.slot w) (path : Place → Path) (x : Tree) (ss : List Step) (show : Show path l f x) (leads : IsAt f ss at Leaf) where
-  abbrev finds : Finds x ss w
-  finds = found_there f at Leaf ss leads (omega arith) l w walked path x show
+  module _ (live : ℕ) (fits : Fits t ds bs live) (alive : b.released ≡ false) (told : on.is_opaque b.birth ≡ false) where
+    pub is_kept : b.kept ≡ true
+    is_kept = (fits.each at.block b is_block).told (ap (λ x. not (x || b.released)) told ∙ ap not alive)
 
-  pub loads_not : w.there ≡ false → Err rule.InactiveMember ≡ load_of x ss
-  loads_not e = load_by x ss true (breaks x ss rule.OutOfLifetime) (breaks x ss rule.Indeterminate) (not_there f x ss (part_at at Leaf) w show.fits leads finds e) refl refl
+    shown : (k : Bool) → k ≡ true → (k ≡ true → Stands (form_at ds b.desc) (slots_seen (paths_in ds bs) b.slots.items)) → Show (paths_in ds bs) b.slots.items (form_at ds b.desc) (if k then picture (form_at ds b.desc) (slots_seen (paths_in ds bs) b.slots.items) else fresh (phase_of b) (form_at ds b.desc))
+    shown true e h = let s = h refl in record { fits = s.fits; seen = sym s.all }
+    shown false e h = absurd (cc)
 
-  pub loads_dead : w.there ≡ true → w.dead ≡ true → Err rule.OutOfLifetime ≡ load_of x ss
-  loads_dead e d = load_by x ss false true (breaks x ss rule.Indeterminate) (is_there f x ss (part_at at Leaf) w show.fits leads finds e) (is_dead_on f x ss (part_at at Leaf) w show.fits leads finds e d) refl
+    -- the slots are those of the object's tree
+    pub shows : (g : Form) (l : List SlotView) → g ≡ form_at ds b.desc → l ≡ b.slots.items → Show (paths_in ds bs) l g o.tree
+    shows g l e z = subst (λ m. Show (paths_in ds bs) m g o.tree) (sym z) (subst (λ f. Show (paths_in ds bs) b.slots.items f o.tree) (sym e) (shown b.kept is_kept (fits.each at.block b is_block).stands))
 
-  -- what is there is a scalar
-  pub record LeafThere : Type 0 where
-    pub value : Scalar Path
-    pub is : below x ss ≡ Some (tree.Leaf value)
+    pub many : (g : Form) (l : List SlotView) → g ≡ form_at ds b.desc → l ≡ b.slots.items → length l ≡ cells g
+    many g l e z = let s = shows g l e z in sym (seen_length (paths_in ds bs) l) ∙ ap length s.seen ∙ flat_length g o.tree s.fits
 
-  pub leaf_there : w.there ≡ true → LeafThere
-  leaf_there e =
-      let y = what_is_there f x ss (part_at at Leaf) w show.fits leads finds e in
-      let k = part_framed f x ss (part_at at Leaf) y.0 show.fits leads y.1 in
-      let v = leaf_of y.0 k.there in
-      record { value = v.0; is = y.1 ∙ ap Some v.1 }
+  module _ (known : AllKnown ds bs) (k : Knows t os p) (sound : Sound t) (live : ℕ) (fits : Fits t ds bs live) (here : at.past ≡ false) where
+    abbrev pub there : Reached t ds bs known at b is_block k sound live fits here
+    there = reached t ds bs known at b is_block k sound live fits here
 
-  pub loads : w.there ≡ true → w.dead ≡ false → result_seen (seen path) (value_of (slot_at l at.slot)) ≡ load_of x ss
-  loads e d =
-      let t = leaf_there e in
-      let h = part_head path l f x show ss (part_at at Leaf) (tree.Leaf t.value) leads t.is in
-      load_value path (slot_at l at.slot) t.value h.1
-      ∙ ap (λ o. unless (if is_indeterminate (tree.Leaf t.value) then Some rule.Indeterminate else None) (scalar_of o)) (sym t.is)
-      ∙ load_by x ss false false (is_indeterminate (tree.Leaf t.value)) (is_there f x ss (part_at at Leaf) w show.fits leads finds e)
-      (no_dead_on f x ss (part_at at Leaf) w show.fits leads finds e d (tree.Leaf t.value) t.is refl) (ap (passes is_indeterminate) t.is)
+    -- the steps lead to a part of that form
+    pub leads_at : (g u : Form) → g ≡ form_at ds b.desc → there.part.form ≡ u → IsAt g p.steps at u
+    leads_at g u e h =
+        ap (λ f. below_of f p.steps) e ∙ there.leads
+        ∙ ap (λ n. Some (record { node = n; slot = there.part.slot; form = there.part.form })) there.node
+        ∙ ap (λ n. Some (record { node = at.node; slot = n; form = there.part.form })) there.slot
+        ∙ ap (λ f. Some (record { node = at.node; slot = at.slot; form = f })) h
 
--- writing
+    pub of_row : (P : TypeRow → Type 0) → IsOf P (row_of t os p) → P there.row
+    of_row P h = subst (IsOf P) there.is_row h
 
-module _ (path : Place → Path) (l : List SlotView) (f : Form) (x : Tree) (show : Show path l f x) (ss : List Step) (p : Part) (y : Tree) (leads : below_of f ss ≡ Some p) (is : below x ss ≡ Some y) (g : Tree → Tree) (m : List SlotView) where
-  abbrev frame : Framed f x ss p y
-  frame = part_framed f x ss p y show.fits leads is
+    pub scalar_at : (g : Form) → g ≡ form_at ds b.desc → IsScalarAt t os p → IsAt g p.steps at Leaf
+    scalar_at g e s = leads_at g Leaf e (leaf_form t sound there.row.kind there.part.form (of_row (λ r. HoldsValue r.kind) s) there.has)
 
-  -- new slots in place of those of the part
-  pub put_over : Fits p.form (g y) → slots_seen path m ≡ over (slots_seen path l) p.slot (flat p.form (g y)) → Show path m f (changed g x ss)
-  put_over h e =
-      let k = frame in
-      record {
-        fits = k.fits g h;
-        seen = e ∙ ap (λ t. over t p.slot (flat p.form (g y))) (show.seen ∙ k.as_was)
-            ∙ over_part k.front (flat p.form y) (flat p.form (g y)) k.back p.slot k.from (flat_length p.form y k.there ∙ sym (flat_length p.form (g y) h))
-            ∙ sym (k.as_new g);
-      }
+    pub class_at : (g : Form) → g ≡ form_at ds b.desc → IsClassAt t os p → (c : ClassId) × (ks : Forms) × (ms : Forms) × IsPlainAt g p.steps at c ks ms
+    class_at g e s =
+        let w = plain_class t sound there.row.kind there.part.form (of_row (λ r. is_class_kind t r.kind ≡ true) s) there.has in
+        (w.0, w.1, w.2, leads_at g (Class w.0 false w.1 w.2) e w.3)
 
-  -- a new first slot
-  pub put_first : Fits p.form (g y) → (a b : Slot) (rest : List Slot) → flat p.form y ≡ a ∷ rest → flat p.form (g y) ≡ b ∷ rest → slots_seen path m ≡ over (slots_seen path l) p.slot (b ∷ []) → Show path m f (changed g x ss)
-  put_first h a b rest was now e =
-      let k = frame in
-      record {
-        fits = k.fits g h;
-        seen = e ∙ ap (λ t. over t p.slot (b ∷ [])) (show.seen ∙ k.as_was ∙ ap (λ t. k.front ++ (t ++ k.back)) was)
-            ∙ over_part k.front (a ∷ []) (b ∷ []) (rest ++ k.back) p.slot k.from refl
-            ∙ ap (λ t. k.front ++ (t ++ k.back)) (sym now) ∙ sym (k.as_new g);
-      }
+    pub union_at : (g : Form) → g ≡ form_at ds b.desc → IsUnionAt t os p → (c : ClassId) × (ms : Forms) × IsAt g p.steps at (Class c true End ms)
+    union_at g e s =
+        let w = union_class t sound there.row.kind there.part.form (of_row (λ r. is_union_kind t r.kind ≡ true) s) there.has in
+        (w.0, w.1, leads_at g (Class w.0 true End w.1) e w.3)
 
-  -- nothing new
-  pub put_same : g y ≡ y → m ≡ l → Show path m f (changed g x ss)
-  put_same h e =
-      let k = frame in
-      record {
-        fits = k.fits g (subst (Fits p.form) (sym h) k.there);
-        seen = ap (slots_seen path) e ∙ show.seen ∙ k.as_was ∙ ap (λ t. k.front ++ (flat p.form t ++ k.back)) (sym h) ∙ sym (k.as_new g);
-      }
+    pub record UnionMember (g : Form) (m : ℕ) : Type 0 where
+      pub class : ClassId
+      pub members : Forms
+      pub is_at : IsAt g p.steps at (Class class true End members)
+      pub part : Part
+      pub is_part : item true members m ≡ Some part
+      pub is_class : there.row.kind ≡ kind.Class class
+      pub of : MemberOf t class m part.form
 
--- the rules of a write, and what is written
+    some_part : (c : ClassId) (ms : Forms) (m : ℕ) (konst : Bool) → (h : Has t sound (kind.Class c) (Class c true End ms)) → is_some (kind_part t konst (kind.Class c) (step.Field m)) ≡ true → (a : Part) × (item true ms m ≡ Some a)
+    some_part c ms m konst h e = go (kind_part t konst (kind.Class c) (step.Field m)) (item true ms m) (below_both t sound (step.Field m ∷ []) (record { kind = kind.Class c; konst = konst }) (Class c true End ms) h) e
+      where
+        go : (x : Option TypeRow) (y : Option Part) → Both t sound (option_and_then (λ (q : TypeRow). row_below t q []) x) (option_and_then (λ (p : Part). option_map (further p.node p.slot) (below_of p.form [])) (option_map (further (suc (nodes_in End)) (suc (cells_in false End))) y)) → is_some x ≡ true → (a : Part) × (y ≡ Some a)
+        go (Some r) (Some a) b e = (a, refl)
+        go (Some r) None b e = absurd b
+        go None y b e = absurd (cc)
 
-abbrev reach_by : Bool → Option Rule
-reach_by a = if a then Some rule.InactiveMember else None
-
-module _ (path : Place → Path) (f : Form) (x : Tree) (ss : List Step) (g : Tree → Tree) (old : List SlotView) where
-  pub reach_not : breaks x ss rule.InactiveMember ≡ true → Writes path f x ss g (reach_rule x ss) old old (Err rule.InactiveMember)
-  reach_not e = subst (λ a. Writes path f x ss g (reach_by a) old old (Err rule.InactiveMember)) (sym e) (refl, refl)
-
-  pub reached : (new : List SlotView) → breaks x ss rule.InactiveMember ≡ false → Show path new f (changed g x ss) → Writes path f x ss g (reach_rule x ss) old new (Ok tt)
-  reached new e h = subst (λ a. Writes path f x ss g (reach_by a) old new (Ok tt)) (sym e) (refl, h)
-
--- the value of a scalar is another
-module _ (f : Form) (l : List SlotView) (at : Place) (w : Found) (walked : Walked f l at.node at.slot w) (path : Place → Path) (x : Tree) (ss : List Step) (show : Show path l f x) (leads : IsAt f ss at Leaf) (v : Scalar Place) where
-  abbrev now_leaf : Tree → Tree
-  now_leaf _ = tree.Leaf (seen path v)
-
-  pub inits_not : w.there ≡ false → Writes path f x ss now_leaf (reach_rule x ss) l l (Err rule.InactiveMember)
-  inits_not e = reach_not path f x ss now_leaf l (not_there f x ss (part_at at Leaf) w show.fits leads (finds f l at w walked path x ss show leads) e)
-
-  value_put : w.there ≡ true → Show path (set l at.slot (view.Value v)) f (changed now_leaf x ss)
-  value_put e =
-      let t = leaf_there f l at w walked path x ss show leads e in
-      put_over path l f x show ss (part_at at Leaf) (tree.Leaf t.value) leads t.is now_leaf (set l at.slot (view.Value v)) tt (seen_over path l at.slot (view.Value v))
-
-  pub inits : w.there ≡ true → Writes path f x ss now_leaf (reach_rule x ss) l (set l at.slot (view.Value v)) (Ok tt)
-  inits e = reached path f x ss now_leaf l (set l at.slot (view.Value v)) (is_there f x ss (part_at at Leaf) w show.fits leads (finds f l at w walked path x ss show leads) e) (value_put e)
-
--- and where the object's type says whether anything may write there
-
-abbrev store_by : Bool → Bool → Bool → Option Rule
-store_by sealed a b = or_sealed sealed (if a then Some rule.InactiveMember else if b then Some rule.OutOfLifetime else None)
-
-module _ (f : Form) (l : List SlotView) (at : Place) (w : Found) (walked : Walked f l at.node at.slot w) (path : Place → Path) (x : Tree) (ss : List Step) (show : Show path l f x) (leads : IsAt f ss at Leaf) (v : Scalar Place) (sealed : Bool) where
-  abbrev stored : List SlotView → Result (Unit {0}) Rule → Bool → Bool → Bool → Type 0
-  stored new result s a b = Writes path f x ss (now_leaf f l at w walked path x ss show leads v) (store_by s a b) l new result
-
-  store_is : (new : List SlotView) (result : Result (Unit {0}) Rule) (s a b : Bool) → sealed ≡ s → breaks x ss rule.InactiveMember ≡ a → breaks x ss rule.OutOfLifetime ≡ b → stored new result s a b → stored new result sealed (breaks x ss rule.InactiveMember) (breaks x ss rule.OutOfLifetime)
-  store_is new result s a b d e h k = subst (λ t. stored new result t (breaks x ss rule.InactiveMember) (breaks x ss rule.OutOfLifetime)) (sym d) (subst (λ t. stored new result s t (breaks x ss rule.OutOfLifetime)) (sym e) (subst (λ t. stored new result s a t) (sym h) k))
-
-  no_leaf_dead : w.there ≡ true → w.dead ≡ false → breaks x ss rule.OutOfLifetime ≡ false
-  no_leaf_dead e d =
-      let t = leaf_there f l at w walked path x ss show leads e in
-      no_dead_on f x ss (part_at at Leaf) w show.fits leads (finds f l at w walked path x ss show leads) e d (tree.Leaf t.value) t.is refl
-
-  pub stores_not : w.there ≡ false → stored l (Err rule.InactiveMember) sealed (breaks x ss rule.InactiveMember) (breaks x ss rule.OutOfLifetime)
-  stores_not e = store_is l (Err rule.InactiveMember) sealed true (breaks x ss rule.OutOfLifetime) refl (not_there f x ss (part_at at Leaf) w show.fits leads (finds f l at w walked path x ss show leads) e) refl (refl, refl)
-
-  pub stores_dead : w.there ≡ true → w.dead ≡ true → stored l (Err rule.OutOfLifetime) sealed (breaks x ss rule.InactiveMember) (breaks x ss rule.OutOfLifetime)
-  stores_dead e d = store_is l (Err rule.OutOfLifetime) sealed false true refl (is_there f x ss (part_at at Leaf) w show.fits leads (finds f l at w walked path x ss show leads) e) (is_dead_on f x ss (part_at at Leaf) w show.fits leads (finds f l at w walked path x ss show leads) e d) (refl, refl)
-
-  pub stores_sealed : w.there ≡ true → w.dead ≡ false → sealed ≡ true → stored l (Err rule.ConstWrite) sealed (breaks x ss rule.InactiveMember) (breaks x ss rule.OutOfLifetime)
-  stores_sealed e d s = store_is l (Err rule.ConstWrite) true false false s (is_there f x ss (part_at at Leaf) w show.fits leads (finds f l at w walked path x ss show leads) e) (no_leaf_dead e d) (refl, refl)
-
-  pub stores : w.there ≡ true → w.dead ≡ false → sealed ≡ false → stored (set l at.slot (view.Value v)) (Ok tt) sealed (breaks x ss rule.InactiveMember) (breaks x ss rule.OutOfLifetime)
-  stores e d s = store_is (set l at.slot (view.Value v)) (Ok tt) false false false s (is_there f x ss (part_at at Leaf) w show.fits leads (finds f l at w walked path x ss show leads) e) (no_leaf_dead e d) (refl, value_put f l at w walked path x ss show leads v e)
-
-pub not_true : (b : Bool) → not b ≡ true → b ≡ false
-not_true true e = absurd (true≢false (sym e))
-not_true false e = refl
-
-pub not_false : (b : Bool) → not b ≡ false → b ≡ true
-not_false true e = refl
-not_false false e = absurd (true≢false e)
+    pub member_at : (g : Form) → g ≡ form_at ds b.desc → IsUnionAt t os p → (m : ℕ) → HasField t os p m → UnionMember g m
+    member_at g e s m f =
+        let w = union_class t sound there.row.kind there.part.form (of_row (λ r. is_union_kind t r.kind ≡ true) s) there.has in
+        let h : Has t sound (kind.Class w.0) (Class w.0 true End w.1) = subst (λ k. Has t sound k (Class w.0 true End w.1)) w.2 (subst (Has t sound there.row.kind) w.3 there.has) in
+        let field : is_some (kind_part t there.row.konst (kind.Class w.0) (step.Field m)) ≡ true = ap (λ k. is_some (kind_part t there.row.konst k (step.Field m))) (sym w.2) ∙ of_row (λ r. is_some (row_part t r (step.Field m)) ≡ true) f in
+        let a = some_part w.0 w.1 m there.row.konst h field in
+        record {
+          class = w.0;
+          members = w.1;
+          is_at = leads_at g (Class w.0 true End w.1) e w.3;
+          part = a.0;
+          is_part = a.1;
+          is_class = w.2;
+          of = member_of t sound w.0 w.1 m a.0 h a.1;
+        }

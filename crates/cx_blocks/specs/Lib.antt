@@ -1,3 +1,7 @@
-pub mod Rules
-pub mod Walks
-pub mod Fills
+pub mod Paths
+pub mod Seen
+pub mod Fits
+pub mod Stored
+pub mod Makes
+pub mod Bars
+pub mod Growing

@@ -1,16 +1,14 @@
-//! Objects as flat rows of slots that descriptors explain ([intro.object], [basic.life], [class.union]).
+//! A store of objects as flat rows of slots: each has its descriptor's number and its slots ([intro.object], [basic.life]).
 #![tactic(auto)]
 
-mod access;
-mod fill;
-pub mod laws;
-mod life;
-mod union;
-mod way;
-mod whole;
+mod block;
+mod blocks;
+mod make;
+mod show;
+mod store;
+mod told;
 
-pub use access::{init_at, load_at, store_at};
-pub use life::advance_at;
-pub use union::{activate_at, deactivate_at};
-pub use way::{Found, find_part};
-pub use whole::renew;
+pub use blocks::Blocks;
+pub use cx_layout::Place;
+pub use cx_slots::SlotView;
+pub use cx_store::{Birth, Kind, Phase, RootView, Scalar, Store, StoreAnswer, StoreMark};

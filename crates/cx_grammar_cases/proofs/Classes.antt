@@ -74,14 +74,14 @@ abbrev classes_and_variables_of_them : List Row
 classes_and_variables_of_them =
     ("struct S x ; struct S * f ( ) ;", unit (decl (d.Entity (entity 0 (specs [] (named (Some a_struct) (type_name "S") [])) (entities.Vars (unset "x" ∷ [])))) ∷ decl (d.Entity (entity 0 (specs [] (named (Some a_struct) (type_name "S") [])) (entities.Function (plain_function (pointers (false ∷ []) false) (plain_name "f") [] (body.Tail tail.Plain))))) ∷ [])) ∷
     ("struct S final ;", unit (decl (d.Entity (entity 0 (specs [] (named (Some a_struct) (type_name "S") [])) (entities.Vars (unset "final" ∷ [])))) ∷ [])) ∷
-    ("struct S final , x ; union U final = { } ;", unit (decl (d.Entity (entity 0 (specs [] (named (Some a_struct) (type_name "S") [])) (entities.Vars (unset "final" ∷ unset "x" ∷ [])))) ∷ decl (d.Entity (entity 0 (specs [] (named (Some a_union) (type_name "U") [])) (entities.Vars (set "final" (initial (i.EqualsBraces (braces []))) ∷ [])))) ∷ [])) ∷
-    ("struct S override { } ;", unit (decl (d.Entity (entity 0 (specs [] (named (Some a_struct) (type_name "S") [])) (entities.Vars (set "override" (initial (i.Braces (braces []))) ∷ [])))) ∷ [])) ∷
-    ("const struct S final { } ;", unit (decl (d.Entity (entity 0 (specs (modifies.Const ∷ []) (named (Some a_struct) (type_name "S") [])) (entities.Vars (set "final" (initial (i.Braces (braces []))) ∷ [])))) ∷ [])) ∷
-    ("[ [ a ] ] struct S final { } ;", unit (decl (d.Entity (entity 0 (specs [] (named (Some a_struct) (type_name "S") [])) (entities.Vars (set "final" (initial (i.Braces (braces []))) ∷ [])))) ∷ [])) ∷
-    ("struct S const final { } ;", unit (decl (d.Entity (entity 0 (specs [] (named (Some a_struct) (type_name "S") (modifies.Const ∷ []))) (entities.Vars (set "final" (initial (i.Braces (braces []))) ∷ [])))) ∷ [])) ∷
-    ("struct S * final { } ;", unit (decl (d.Entity (entity 0 (specs [] (named (Some a_struct) (type_name "S") [])) (entities.Vars (variable (pointers (false ∷ []) false) "final" 0 [] (Some (initial (i.Braces (braces [])))) ∷ [])))) ∷ [])) ∷
-    ("struct S ; struct :: S final { } ;", unit (decl (d.Class (class key.Struct 0 "S" None)) ∷ decl (d.Entity (entity 0 (specs [] (named (Some a_struct) (type_in true [] "S") [])) (entities.Vars (set "final" (initial (i.Braces (braces []))) ∷ [])))) ∷ [])) ∷
-    ("struct S ; struct n :: S final { } ;", unit (decl (d.Class (class key.Struct 0 "S" None)) ∷ decl (d.Entity (entity 0 (specs [] (named (Some a_struct) (type_in false ("n" ∷ []) "S") [])) (entities.Vars (set "final" (initial (i.Braces (braces []))) ∷ [])))) ∷ [])) ∷
+    ("struct S final , x ; union U final = { } ;", unit (decl (d.Entity (entity 0 (specs [] (named (Some a_struct) (type_name "S") [])) (entities.Vars (unset "final" ∷ unset "x" ∷ [])))) ∷ decl (d.Entity (entity 0 (specs [] (named (Some a_union) (type_name "U") [])) (entities.Vars (set "final" (initial (i.EqualsList (braces []))) ∷ [])))) ∷ [])) ∷
+    ("struct S override { } ;", unit (decl (d.Entity (entity 0 (specs [] (named (Some a_struct) (type_name "S") [])) (entities.Vars (set "override" (initial (i.DirectList (braces []))) ∷ [])))) ∷ [])) ∷
+    ("const struct S final { } ;", unit (decl (d.Entity (entity 0 (specs (modifies.Const ∷ []) (named (Some a_struct) (type_name "S") [])) (entities.Vars (set "final" (initial (i.DirectList (braces []))) ∷ [])))) ∷ [])) ∷
+    ("[ [ a ] ] struct S final { } ;", unit (decl (d.Entity (entity 0 (specs [] (named (Some a_struct) (type_name "S") [])) (entities.Vars (set "final" (initial (i.DirectList (braces []))) ∷ [])))) ∷ [])) ∷
+    ("struct S const final { } ;", unit (decl (d.Entity (entity 0 (specs [] (named (Some a_struct) (type_name "S") (modifies.Const ∷ []))) (entities.Vars (set "final" (initial (i.DirectList (braces []))) ∷ [])))) ∷ [])) ∷
+    ("struct S * final { } ;", unit (decl (d.Entity (entity 0 (specs [] (named (Some a_struct) (type_name "S") [])) (entities.Vars (variable (pointers (false ∷ []) false) "final" 0 [] (Some (initial (i.DirectList (braces [])))) ∷ [])))) ∷ [])) ∷
+    ("struct S ; struct :: S final { } ;", unit (decl (d.Class (class key.Struct 0 "S" None)) ∷ decl (d.Entity (entity 0 (specs [] (named (Some a_struct) (type_in true [] "S") [])) (entities.Vars (set "final" (initial (i.DirectList (braces []))) ∷ [])))) ∷ [])) ∷
+    ("struct S ; struct n :: S final { } ;", unit (decl (d.Class (class key.Struct 0 "S" None)) ∷ decl (d.Entity (entity 0 (specs [] (named (Some a_struct) (type_in false ("n" ∷ []) "S") [])) (entities.Vars (set "final" (initial (i.DirectList (braces []))) ∷ [])))) ∷ [])) ∷
     ("struct S final ( int ) ;", unit (decl (d.Entity (entity 0 (specs [] (named (Some a_struct) (type_name "S") [])) (entities.Function (plain_function (pointers [] false) (plain_name "final") (param 0 (of_word w.Int) (pointers [] false) None [] None ∷ []) (body.Tail tail.Plain))))) ∷ [])) ∷
     ("struct S final :: f ( ) ;", unit (decl (d.Entity (entity 0 (specs [] (named (Some a_struct) (type_name "S") [])) (entities.Function (plain_function (pointers [] false) (name_in ("final" ∷ []) "f") [] (body.Tail tail.Plain))))) ∷ [])) ∷ []
 
@@ -96,8 +96,8 @@ members_of_all_kinds =
     ("static_assert ( true ) ; using T = int ; typedef int U ;", member (members.Assert (assertion (expr e.True) None)) ∷ member (members.Alias (alias "T" 0 (type_id (of_word w.Int)))) ∷ member (members.Typedef (typed (of_word w.Int) (pointers [] false) "U")) ∷ []) ∷
     ("enum E { } ; enum { a } ; enum E x ;", member (members.Enum (enumeration 0 (enums.Named false (ident "E") None (Some [])))) ∷ member (members.Enum (enumeration 0 (enums.Unnamed None (enumerator "a" 0 None ∷ [])))) ∷ member (members.Entity (entity 0 (specs [] (named (Some an_enum) (type_name "E") [])) (entities.Vars (unset "x" ∷ [])))) ∷ []) ∷
     ("struct N ; struct M { int x ; } ; class C final { } ;", member (members.Class (class key.Struct 0 "N" None)) ∷ member (members.Class (class key.Struct 0 "M" (Some (class_body false [] (member (members.Entity (entity 0 (of_word w.Int) (entities.Vars (unset "x" ∷ [])))) ∷ []))))) ∷ member (members.Class (class key.Class 0 "C" (Some (class_body true [] [])))) ∷ []) ∷
-    ("struct T final ; const union T final { } ;", member (members.Entity (entity 0 (specs [] (named (Some a_struct) (type_name "T") [])) (entities.Vars (unset "final" ∷ [])))) ∷ member (members.Entity (entity 0 (specs (modifies.Const ∷ []) (named (Some a_union) (type_name "T") [])) (entities.Vars (set "final" (initial (i.Braces (braces []))) ∷ [])))) ∷ []) ∷
-    ("int a , * b = nullptr , c [ 3 ] { 1 } ;", member (members.Entity (entity 0 (of_word w.Int) (entities.Vars (unset "a" ∷ variable (pointers (false ∷ []) false) "b" 0 [] (Some (initial (i.Equals (expr e.Nullptr)))) ∷ variable (pointers [] false) "c" 0 (bound (Some (number 3)) ∷ []) (Some (initial (i.Braces (braces (c.Expr (number 1) ∷ []))))) ∷ [])))) ∷ []) ∷
+    ("struct T final ; const union T final { } ;", member (members.Entity (entity 0 (specs [] (named (Some a_struct) (type_name "T") [])) (entities.Vars (unset "final" ∷ [])))) ∷ member (members.Entity (entity 0 (specs (modifies.Const ∷ []) (named (Some a_union) (type_name "T") [])) (entities.Vars (set "final" (initial (i.DirectList (braces []))) ∷ [])))) ∷ []) ∷
+    ("int a , * b = nullptr , c [ 3 ] { 1 } ;", member (members.Entity (entity 0 (of_word w.Int) (entities.Vars (unset "a" ∷ variable (pointers (false ∷ []) false) "b" 0 [] (Some (initial (i.Equals (expr e.Nullptr)))) ∷ variable (pointers [] false) "c" 0 (bound (Some (number 3)) ∷ []) (Some (initial (i.DirectList (braces (c.Value (number 1) ∷ []))))) ∷ [])))) ∷ []) ∷
     ("[ [ a ( b ) ] ] static constexpr int d = 4 ;", member (members.Entity (entity 1 (specs (modifies.Static ∷ modifies.Constexpr ∷ []) (worded w.Int [])) (entities.Vars (set "d" (initial (i.Equals (number 4))) ∷ [])))) ∷ []) ∷
     ("S * next ; const S & f ( ) ;", member (members.Entity (entity 0 (of_name (type_name "S")) (entities.Vars (variable (pointers (false ∷ []) false) "next" 0 [] None ∷ [])))) ∷ member (members.Entity (entity 0 (specs (modifies.Const ∷ []) (named None (type_name "S") [])) (entities.Function (plain_function (pointers [] true) (plain_name "f") [] (body.Tail tail.Plain))))) ∷ []) ∷
     ("S :: S x ; :: S y ;", member (members.Entity (entity 0 (of_name (type_in false ("S" ∷ []) "S")) (entities.Vars (unset "x" ∷ [])))) ∷ member (members.Entity (entity 0 (of_name (type_in true [] "S")) (entities.Vars (unset "y" ∷ [])))) ∷ []) ∷ []
@@ -112,7 +112,7 @@ constructors =
     ("S ( ) ;", member (members.Constructor (constructor 0 [] "S" [] 0 (ends.Tail tail.Plain))) ∷ []) ∷
     ("S ( ) = default ; S ( const S & ) = delete ; S ( ) = 0 ;", member (members.Constructor (constructor 0 [] "S" [] 0 (ends.Tail tail.Default))) ∷ member (members.Constructor (constructor 0 [] "S" (param 0 (specs (modifies.Const ∷ []) (named None (type_name "S") [])) (pointers [] true) None [] None ∷ []) 0 (ends.Tail tail.Delete))) ∷ member (members.Constructor (constructor 0 [] "S" [] 0 (ends.Tail tail.Pure))) ∷ []) ∷
     ("S ( ) { } ;", member (members.Constructor (constructor 0 [] "S" [] 0 (ends.Block [] (block [])))) ∷ member members.Empty ∷ []) ∷
-    ("explicit constexpr S ( int x , int ) noexcept : a ( x ) , b { } , n :: S ( ) , S { 1 , { 2 } } { ; }", member (members.Constructor (constructor 0 (modifies.Explicit ∷ modifies.Constexpr ∷ []) "S" (param 0 (of_word w.Int) (pointers [] false) (Some "x") [] None ∷ param 0 (of_word w.Int) (pointers [] false) None [] None ∷ []) 0 (ends.Block (member_init (names.Ident (ident "a")) (given.Args (args (name "x" ∷ []))) ∷ member_init (names.Ident (ident "b")) (given.Braces (braces [])) ∷ member_init (names.Type (type_in false ("n" ∷ []) "S")) (given.Args (args [])) ∷ member_init (names.Type (type_name "S")) (given.Braces (braces (c.Expr (number 1) ∷ c.Braces (braces (c.Expr (number 2) ∷ [])) ∷ []))) ∷ []) (block (item.Stmt (stmt s.Empty) ∷ []))))) ∷ []) ∷
+    ("explicit constexpr S ( int x , int ) noexcept : a ( x ) , b { } , n :: S ( ) , S { 1 , { 2 } } { ; }", member (members.Constructor (constructor 0 (modifies.Explicit ∷ modifies.Constexpr ∷ []) "S" (param 0 (of_word w.Int) (pointers [] false) (Some "x") [] None ∷ param 0 (of_word w.Int) (pointers [] false) None [] None ∷ []) 0 (ends.Block (member_init (names.Ident (ident "a")) (given.Args (args (name "x" ∷ []))) ∷ member_init (names.Ident (ident "b")) (given.Braces (braces [])) ∷ member_init (names.Type (type_in false ("n" ∷ []) "S")) (given.Args (args [])) ∷ member_init (names.Type (type_name "S")) (given.Braces (braces (c.Value (number 1) ∷ c.Nested (braces (c.Value (number 2) ∷ [])) ∷ []))) ∷ []) (block (item.Stmt (stmt s.Empty) ∷ []))))) ∷ []) ∷
     ("[ [ a ( { 1 } ) ] ] S ( ) noexcept ( x ( y ) ) { }", member (members.Constructor (constructor 2 [] "S" [] 1 (ends.Block [] (block [])))) ∷ []) ∷
     ("[ [ a ] ] inline S ( int x = 1 ) noexcept ( true ) ;", member (members.Constructor (constructor 0 (modifies.Inline ∷ []) "S" (param 0 (of_word w.Int) (pointers [] false) (Some "x") [] (Some (number 1)) ∷ []) 0 (ends.Tail tail.Plain))) ∷ []) ∷
     ("S ( ) : final ( 1 , 2 ) { }", member (members.Constructor (constructor 0 [] "S" [] 0 (ends.Block (member_init (names.Ident (ident "final")) (given.Args (args (number 1 ∷ number 2 ∷ []))) ∷ []) (block [])))) ∷ []) ∷
@@ -141,7 +141,7 @@ abbrev member_functions : List MembersRow
 member_functions =
     ("virtual int f ( int ) const noexcept override = 0 ;", member (members.Entity (entity 0 (specs (modifies.Virtual ∷ []) (worded w.Int [])) (entities.Function (function (pointers [] false) (plain_name "f") (param 0 (of_word w.Int) (pointers [] false) None [] None ∷ []) true 0 (virtual.Override ∷ []) (body.Tail tail.Pure))))) ∷ []) ∷
     ("S & operator = ( const S & ) = default ;", member (members.Entity (entity 0 (of_name (type_name "S")) (entities.Function (plain_function (pointers [] true) (operator_name (v.Assign a.Plain)) (param 0 (specs (modifies.Const ∷ []) (named None (type_name "S") [])) (pointers [] true) None [] None ∷ []) (body.Tail tail.Default))))) ∷ []) ∷
-    ("bool operator ( ) ( int i ) const { return i ; }", member (members.Entity (entity 0 (of_word w.Bool) (entities.Function (function (pointers [] false) (operator_name v.Call) (param 0 (of_word w.Int) (pointers [] false) (Some "i") [] None ∷ []) true 0 [] (body.Block (block (item.Stmt (stmt (s.Return (Some (returned.Expr (name "i"))))) ∷ []))))))) ∷ []) ∷
+    ("bool operator ( ) ( int i ) const { return i ; }", member (members.Entity (entity 0 (of_word w.Bool) (entities.Function (function (pointers [] false) (operator_name v.Call) (param 0 (of_word w.Int) (pointers [] false) (Some "i") [] None ∷ []) true 0 [] (body.Block (block (item.Stmt (stmt (s.Return (Some (returned.Value (name "i"))))) ∷ []))))))) ∷ []) ∷
     ("int operator [ ] ( int ) final ; S * operator -> ( ) ;", member (members.Entity (entity 0 (of_word w.Int) (entities.Function (function (pointers [] false) (operator_name v.Subscript) (param 0 (of_word w.Int) (pointers [] false) None [] None ∷ []) false 0 (virtual.Final ∷ []) (body.Tail tail.Plain))))) ∷ member (members.Entity (entity 0 (of_name (type_name "S")) (entities.Function (plain_function (pointers (false ∷ []) false) (operator_name v.Arrow) [] (body.Tail tail.Plain))))) ∷ []) ∷
     ("explicit f ( ) ; S g ( S ) ;", member (members.Entity (entity 0 (specs (modifies.Explicit ∷ []) untyped) (entities.Function (plain_function (pointers [] false) (plain_name "f") [] (body.Tail tail.Plain))))) ∷ member (members.Entity (entity 0 (of_name (type_name "S")) (entities.Function (plain_function (pointers [] false) (plain_name "g") (param 0 (of_name (type_name "S")) (pointers [] false) None [] None ∷ []) (body.Tail tail.Plain))))) ∷ []) ∷ []
 

@@ -91,7 +91,7 @@ enumerations =
     ("enum : int { a } ;", unit (decl (d.Enum (enumeration 0 (enums.Unnamed (Some (of_word w.Int)) (enumerator "a" 0 None ∷ [])))) ∷ [])) ∷
     ("enum [ [ x ( { [ 1 ] } ) ] ] : const Size { a = b ? 1 : 2 , } ;", unit (decl (d.Enum (enumeration 3 (enums.Unnamed (Some (specs (modifies.Const ∷ []) (named None (type_name "Size") []))) (enumerator "a" 0 (Some (expr (e.Conditional (name "b") (number 1) (number 2)))) ∷ [])))) ∷ [])) ∷
     ("enum E { a } ; enum E x ; enum E f ( ) ;", unit (decl (d.Enum (enumeration 0 (enums.Named false (ident "E") None (Some (enumerator "a" 0 None ∷ []))))) ∷ decl (d.Entity (entity 0 (specs [] (named (Some an_enum) (type_name "E") [])) (entities.Vars (unset "x" ∷ [])))) ∷ decl (d.Entity (entity 0 (specs [] (named (Some an_enum) (type_name "E") [])) (entities.Function (plain_function (pointers [] false) (plain_name "f") [] (body.Tail tail.Plain))))) ∷ [])) ∷
-    ("enum E final { } ; enum :: n :: E x ;", unit (decl (d.Entity (entity 0 (specs [] (named (Some an_enum) (type_name "E") [])) (entities.Vars (set "final" (initial (i.Braces (braces []))) ∷ [])))) ∷ decl (d.Entity (entity 0 (specs [] (named (Some an_enum) (type_in true ("n" ∷ []) "E") [])) (entities.Vars (unset "x" ∷ [])))) ∷ [])) ∷ []
+    ("enum E final { } ; enum :: n :: E x ;", unit (decl (d.Entity (entity 0 (specs [] (named (Some an_enum) (type_name "E") [])) (entities.Vars (set "final" (initial (i.DirectList (braces []))) ∷ [])))) ∷ decl (d.Entity (entity 0 (specs [] (named (Some an_enum) (type_in true ("n" ∷ []) "E") [])) (entities.Vars (unset "x" ∷ [])))) ∷ [])) ∷ []
 
 enumerations_hold : Hold enumerations
 unfolding words_a_to_c words_d_to_i words_l_to_r words_in_s words_t_to_w brackets_and_marks single_operators arrows_and_assignments comparisons_and_shifts name_class number_class same_class many_of many_when others_by links_of ahead.type_end r.op r.last_part r.fname r.qtype r.named r.words_type r.name_type r.specs r.star r.ptrs r.bound r.typeid r.args r.paren_args r.clause r.clauses_in r.braces r.given r.string r.paren r.word_cast r.word_made r.id_expression r.type_made r.head_kind r.head r.subscript r.member_part r.member r.more_kind r.more r.postfix r.prefix r.delete r.new_bound r.new r.alignof_type r.sizeof_type r.sizeof_expr r.sizeof r.unary r.type_cast r.cast r.chain r.assigned r.choice r.chosen r.tail r.chain_or_more r.throw r.assign r.cond r.expr r.deeper parts.soup_over parts.deeper_soup parts.tail parts.virt parts.pieces parts.attribute parts.attrs parts.noex parts.assert parts.alias parts.enumr parts.enums parts.enum_end parts.named parts.unnamed parts.scoped_enum parts.unscoped_kind parts.enum_kind parts.enum vars.specs_before vars.typedef vars.equals_value vars.init_args vars.paren_init vars.init_kind vars.init vars.name_attrs vars.var vars.vars vars.default_argument vars.param vars.params vars.declared vars.local vars.bare_local stmts.range_ahead stmts.case_label stmts.default_label stmts.label stmts.expr_stmt stmts.returned stmts.return_stmt stmts.break_stmt stmts.continue_stmt stmts.empty_stmt stmts.for_start stmts.for_steps stmts.for_range stmts.for_head stmts.block_with stmts.if_stmt stmts.while_stmt stmts.do_stmt stmts.for_stmt stmts.switch_item stmts.switch_stmt stmts.jump_stmt stmts.loop_stmt stmts.stmt_kind stmts.stmt_with stmts.behind_attrs stmts.plain_item stmts.item_with stmts.deeper decls.member_name decls.paren_params decls.body decls.function_end decls.function decls.vars_end decls.entity_kind decls.entity_end decls.entity decls.minit decls.minits decls.ctor_body decls.ctor_end decls.dtor_end decls.ctor decls.dtor decls.behind_attrs decls.member_function decls.base decls.bases decls.members decls.class_body decls.class_end decls.class_over decls.declared_member decls.member_kind decls.member_over decls.deeper_member decls.space_names decls.decls decls.space_over decls.declared decls.decl_kind decls.decl_over decls.deeper_decl decls.unit

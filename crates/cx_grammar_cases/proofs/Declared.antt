@@ -51,7 +51,7 @@ use Rattle.cx_tree.specs.declared.decls.Typedef.{Typedef}
 use Rattle.cx_tree.specs.declared.decls.Unit.{Unit as TranslationUnit}
 use Rattle.cx_tree.specs.declared.decls.Virtual.{Virtual}
 use Rattle.cx_grammar_cases.proofs.Words.{no_span}
-use Rattle.cx_grammar_cases.proofs.Trees.{ident, mod_of, pointers}
+use Rattle.cx_grammar_cases.proofs.Trees.{destructor_name, ident, mod_of, pointers}
 
 -- ---- variables
 
@@ -143,7 +143,7 @@ abbrev pub constructor : ℕ → List ModifierWord → String → List Param →
 constructor attrs before t params levels body = record { attrs = attrs; modifiers = map mod_of before; name = ident t; params = params; noexcept = levels; body = body }
 
 abbrev pub destructor : ℕ → List ModifierWord → String → ℕ → List Virtual → Body → Destructor
-destructor attrs before t levels virtuals body = record { attrs = attrs; modifiers = map mod_of before; name = ident t; noexcept = levels; virtuals = virtuals; body = body }
+destructor attrs before t levels virtuals body = record { attrs = attrs; modifiers = map mod_of before; name = destructor_name t; noexcept = levels; virtuals = virtuals; body = body }
 
 -- ---- units
 

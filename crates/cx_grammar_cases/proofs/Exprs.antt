@@ -6,7 +6,6 @@ use Rattle.cx_tree.specs.declared.operators.BinaryOp.TheVariants as o
 use Rattle.cx_tree.specs.declared.operators.AssignOp.TheVariants as a
 use Rattle.cx_tree.specs.declared.operators.PrefixOp.TheVariants as p
 use Rattle.cx_tree.specs.declared.operators.Overloaded.TheVariants as v
-use Rattle.cx_tree.specs.declared.names.Last.TheVariants as last
 use Rattle.cx_tree.specs.declared.specifiers.ModifierWord.TheVariants as modifies
 use Rattle.cx_tree.specs.declared.specifiers.TypeWord.TheVariants as w
 use Rattle.cx_tree.specs.declared.exprs.ExprKind.TheVariants as e
@@ -21,7 +20,7 @@ use Rattle.cx_syntax.specs.Classes.{words_a_to_c, words_d_to_i, words_l_to_r, wo
 use Rattle.cx_syntax.specs.Linked.{links_of}
 use Rattle.cx_syntax.specs.Readers as r
 use Rattle.cx_grammar_cases.proofs.Words.{tree, answer, text}
-use Rattle.cx_grammar_cases.proofs.Trees.{ident, scoped, name_in, plain_name, operator_name, type_in, type_name, a_struct, a_class, a_union, an_enum, word, modifier, untyped, worded, named, specs, of_word, of_name, pointers, bound, unbounded, declared, type_id, expr, name, number, paren, prefix, chain, binary, cast, args, braces, new, postfix}
+use Rattle.cx_grammar_cases.proofs.Trees.{ident, scoped, name_in, plain_name, operator_name, type_in, type_name, a_struct, a_class, a_union, an_enum, word, modifier, untyped, worded, named, specs, of_word, of_name, pointers, bound, unbounded, declared, type_id, expr, name, number, paren, prefix, chain, binary, cast, args, braces, new, postfix, operator, in_global, destructor_name, simple}
 
 -- an expression and its tree
 abbrev Row : Type 0
@@ -40,9 +39,9 @@ literals_and_names =
     ("nullptr", expr e.Nullptr) ∷
     ("this", expr e.This) ∷
     ("a", name "a") ∷
-    (":: a", expr (e.Name true (plain_name "a"))) ∷
-    ("n :: T :: a", expr (e.Name false (name_in ("n" ∷ "T" ∷ []) "a"))) ∷
-    (":: n :: m :: a", expr (e.Name true (name_in ("n" ∷ "m" ∷ []) "a"))) ∷
+    (":: a", expr (e.Name (in_global (plain_name "a")))) ∷
+    ("n :: T :: a", expr (e.Name (name_in ("n" ∷ "T" ∷ []) "a"))) ∷
+    (":: n :: m :: a", expr (e.Name (in_global (name_in ("n" ∷ "m" ∷ []) "a")))) ∷
     ("final + override", binary o.Add (name "final") (name "override")) ∷ []
 
 literals_and_names_hold : Hold literals_and_names
@@ -52,19 +51,19 @@ literals_and_names_hold = refl
 -- names of operators
 abbrev names_of_operators : List Row
 names_of_operators =
-    ("operator +", expr (e.Name false (operator_name (v.Binary o.Add)))) ∷
-    ("operator ->", expr (e.Name false (operator_name v.Arrow))) ∷
-    ("operator ~", expr (e.Name false (operator_name v.Complement))) ∷
-    ("n :: operator !", expr (e.Name false (scoped ("n" ∷ []) (last.Operator v.Not)))) ∷
-    (":: T :: operator --", expr (e.Name true (scoped ("T" ∷ []) (last.Operator v.Decrement)))) ∷
-    ("operator =", expr (e.Name false (operator_name (v.Assign a.Plain)))) ∷
-    ("operator <<=", expr (e.Name false (operator_name (v.Assign a.ShiftLeft)))) ∷
-    ("operator ==", expr (e.Name false (operator_name (v.Binary o.Equal)))) ∷
-    ("operator ( )", expr (e.Name false (operator_name v.Call))) ∷
-    ("operator ( ) ( )", postfix (expr (e.Name false (operator_name v.Call))) (m.Call (args []) ∷ [])) ∷
-    ("operator [ ] [ 1 ]", postfix (expr (e.Name false (operator_name v.Subscript))) (m.Subscript (number 1) ∷ [])) ∷
-    ("operator - - a", binary o.Subtract (expr (e.Name false (operator_name (v.Binary o.Subtract)))) (name "a")) ∷
-    ("operator * * operator ++ ++", binary o.Multiply (expr (e.Name false (operator_name (v.Binary o.Multiply)))) (postfix (expr (e.Name false (operator_name v.Increment))) (m.Increment ∷ []))) ∷ []
+    ("operator +", expr (e.Name (operator_name (v.Binary o.Add)))) ∷
+    ("operator ->", expr (e.Name (operator_name v.Arrow))) ∷
+    ("operator ~", expr (e.Name (operator_name v.Complement))) ∷
+    ("n :: operator !", expr (e.Name (scoped ("n" ∷ []) (operator v.Not)))) ∷
+    (":: T :: operator --", expr (e.Name (in_global (scoped ("T" ∷ []) (operator v.Decrement))))) ∷
+    ("operator =", expr (e.Name (operator_name (v.Assign a.Plain)))) ∷
+    ("operator <<=", expr (e.Name (operator_name (v.Assign a.ShiftLeft)))) ∷
+    ("operator ==", expr (e.Name (operator_name (v.Binary o.Equal)))) ∷
+    ("operator ( )", expr (e.Name (operator_name v.Call))) ∷
+    ("operator ( ) ( )", postfix (expr (e.Name (operator_name v.Call))) (m.Call (args []) ∷ [])) ∷
+    ("operator [ ] [ 1 ]", postfix (expr (e.Name (operator_name v.Subscript))) (m.Subscript (number 1) ∷ [])) ∷
+    ("operator - - a", binary o.Subtract (expr (e.Name (operator_name (v.Binary o.Subtract)))) (name "a")) ∷
+    ("operator * * operator ++ ++", binary o.Multiply (expr (e.Name (operator_name (v.Binary o.Multiply)))) (postfix (expr (e.Name (operator_name v.Increment))) (m.Increment ∷ []))) ∷ []
 
 names_of_operators_hold : Hold names_of_operators
 unfolding words_a_to_c words_d_to_i words_l_to_r words_in_s words_t_to_w brackets_and_marks single_operators arrows_and_assignments comparisons_and_shifts name_class number_class same_class many_of many_when others_by links_of r.op r.last_part r.fname r.qtype r.named r.words_type r.name_type r.specs r.star r.ptrs r.bound r.typeid r.args r.paren_args r.clause r.clauses_in r.braces r.given r.string r.paren r.word_cast r.word_made r.id_expression r.type_made r.head_kind r.head r.subscript r.member_part r.member r.more_kind r.more r.postfix r.prefix r.delete r.new_bound r.new r.alignof_type r.sizeof_type r.sizeof_expr r.sizeof r.unary r.type_cast r.cast r.chain r.assigned r.choice r.chosen r.tail r.chain_or_more r.throw r.assign r.cond r.expr r.deeper
@@ -163,11 +162,11 @@ casts_and_parentheses =
     ("( T ) ( U ) * a", cast (type_id (of_name (type_name "T"))) (cast (type_id (of_name (type_name "U"))) (prefix p.Indirection (name "a")))) ∷
     ("( T ) a * b", binary o.Multiply (cast (type_id (of_name (type_name "T"))) (name "a")) (name "b")) ∷
     ("( n :: T ) a", cast (type_id (of_name (type_in false ("n" ∷ []) "T"))) (name "a")) ∷
-    ("( n :: a ) ( b )", postfix (paren (expr (e.Name false (name_in ("n" ∷ []) "a")))) (m.Call (args (name "b" ∷ [])) ∷ [])) ∷
+    ("( n :: a ) ( b )", postfix (paren (expr (e.Name (name_in ("n" ∷ []) "a")))) (m.Call (args (name "b" ∷ [])) ∷ [])) ∷
     ("( :: T :: U ) a", cast (type_id (of_name (type_in true ("T" ∷ []) "U"))) (name "a")) ∷
-    ("( T :: a ) - b", binary o.Subtract (paren (expr (e.Name false (name_in ("T" ∷ []) "a")))) (name "b")) ∷
+    ("( T :: a ) - b", binary o.Subtract (paren (expr (e.Name (name_in ("T" ∷ []) "a")))) (name "b")) ∷
     ("( T ( ) )", paren (expr (e.OfType (type_name "T") (given.Args (args []))))) ∷
-    ("( T { } + int ( a ) )", paren (binary o.Add (expr (e.OfType (type_name "T") (given.Braces (braces [])))) (expr (e.OfWord w.Int (given.Args (args (name "a" ∷ []))))))) ∷ []
+    ("( T { } + int ( a ) )", paren (binary o.Add (expr (e.OfType (type_name "T") (given.Braces (braces [])))) (expr (e.OfWord (simple w.Int) (given.Args (args (name "a" ∷ []))))))) ∷ []
 
 casts_and_parentheses_hold : Hold casts_and_parentheses
 unfolding words_a_to_c words_d_to_i words_l_to_r words_in_s words_t_to_w brackets_and_marks single_operators arrows_and_assignments comparisons_and_shifts name_class number_class same_class many_of many_when others_by links_of r.op r.last_part r.fname r.qtype r.named r.words_type r.name_type r.specs r.star r.ptrs r.bound r.typeid r.args r.paren_args r.clause r.clauses_in r.braces r.given r.string r.paren r.word_cast r.word_made r.id_expression r.type_made r.head_kind r.head r.subscript r.member_part r.member r.more_kind r.more r.postfix r.prefix r.delete r.new_bound r.new r.alignof_type r.sizeof_type r.sizeof_expr r.sizeof r.unary r.type_cast r.cast r.chain r.assigned r.choice r.chosen r.tail r.chain_or_more r.throw r.assign r.cond r.expr r.deeper
@@ -229,7 +228,7 @@ sizes_and_alignments =
     ("sizeof ( a ) [ 1 ]", expr (e.SizeofExpr (postfix (paren (name "a")) (m.Subscript (number 1) ∷ [])))) ∷
     ("sizeof ( T ( ) )", expr (e.SizeofExpr (paren (expr (e.OfType (type_name "T") (given.Args (args []))))))) ∷
     ("sizeof T ( a )", expr (e.SizeofExpr (expr (e.OfType (type_name "T") (given.Args (args (name "a" ∷ []))))))) ∷
-    ("sizeof int { }", expr (e.SizeofExpr (expr (e.OfWord w.Int (given.Braces (braces [])))))) ∷
+    ("sizeof int { }", expr (e.SizeofExpr (expr (e.OfWord (simple w.Int) (given.Braces (braces [])))))) ∷
     ("sizeof sizeof ( T )", expr (e.SizeofExpr (expr (e.SizeofType (type_id (of_name (type_name "T"))))))) ∷
     ("sizeof - a + b", binary o.Add (expr (e.SizeofExpr (prefix p.Minus (name "a")))) (name "b")) ∷
     ("sizeof ( const T * [ 2 ] )", expr (e.SizeofType (declared (specs (modifies.Const ∷ []) (named None (type_name "T") [])) (pointers (false ∷ []) false) (bound (Some (number 2)) ∷ [])))) ∷
@@ -247,12 +246,12 @@ new_objects =
     ("new T", new (of_name (type_name "T")) [] None None) ∷
     ("new T ( )", new (of_name (type_name "T")) [] None (Some (given.Args (args [])))) ∷
     ("new n :: T ( a , b )", new (of_name (type_in false ("n" ∷ []) "T")) [] None (Some (given.Args (args (name "a" ∷ name "b" ∷ []))))) ∷
-    ("new T { a , b }", new (of_name (type_name "T")) [] None (Some (given.Braces (braces (c.Expr (name "a") ∷ c.Expr (name "b") ∷ []))))) ∷
+    ("new T { a , b }", new (of_name (type_name "T")) [] None (Some (given.Braces (braces (c.Value (name "a") ∷ c.Value (name "b") ∷ []))))) ∷
     ("new auto ( 1 )", new (of_word w.Auto) [] None (Some (given.Args (args (number 1 ∷ []))))) ∷
     ("new const", new (specs (modifies.Const ∷ []) untyped) [] None None) ∷
     ("new const int * const *", new (specs (modifies.Const ∷ []) (worded w.Int [])) (true ∷ false ∷ []) None None) ∷
     ("new int [ a ]", new (of_word w.Int) [] (Some (name "a")) None) ∷
-    ("new int [ a , b ] { 1 , 2 }", new (of_word w.Int) [] (Some (expr (e.Comma (name "a") (name "b" ∷ [])))) (Some (given.Braces (braces (c.Expr (number 1) ∷ c.Expr (number 2) ∷ []))))) ∷
+    ("new int [ a , b ] { 1 , 2 }", new (of_word w.Int) [] (Some (expr (e.Comma (name "a") (name "b" ∷ [])))) (Some (given.Braces (braces (c.Value (number 1) ∷ c.Value (number 2) ∷ []))))) ∷
     ("new int [ new T ] ( a )", new (of_word w.Int) [] (Some (new (of_name (type_name "T")) [] None None)) (Some (given.Args (args (name "a" ∷ []))))) ∷
     ("new T * *", new (of_name (type_name "T")) (false ∷ false ∷ []) None None) ∷ []
 
@@ -311,8 +310,8 @@ parts_behind_a_head =
     ("a . T :: b ( c )", postfix (name "a") (m.Member reach.Dot (name_in ("T" ∷ []) "b") ∷ m.Call (args (name "c" ∷ [])) ∷ [])) ∷
     ("a . operator + ( b )", postfix (name "a") (m.Member reach.Dot (operator_name (v.Binary o.Add)) ∷ m.Call (args (name "b" ∷ [])) ∷ [])) ∷
     ("a -> operator ( ) ( )", postfix (name "a") (m.Member reach.Arrow (operator_name v.Call) ∷ m.Call (args []) ∷ [])) ∷
-    ("a . ~ T ( )", postfix (name "a") (m.Destroy reach.Dot (ident "T") ∷ [])) ∷
-    ("a -> ~ T ( ) ( )", postfix (name "a") (m.Destroy reach.Arrow (ident "T") ∷ m.Call (args []) ∷ [])) ∷
+    ("a . ~ T ( )", postfix (name "a") (m.Destroy reach.Dot (destructor_name "T") ∷ [])) ∷
+    ("a -> ~ T ( ) ( )", postfix (name "a") (m.Destroy reach.Arrow (destructor_name "T") ∷ m.Call (args []) ∷ [])) ∷
     ("a [ b ] ( c ) . d ++", postfix (name "a") (m.Subscript (name "b") ∷ m.Call (args (name "c" ∷ [])) ∷ m.Member reach.Dot (plain_name "d") ∷ m.Increment ∷ [])) ∷ []
 
 parts_behind_a_head_hold : Hold parts_behind_a_head
@@ -327,11 +326,11 @@ heads =
     ("this -> a", postfix (expr e.This) (m.Member reach.Arrow (plain_name "a") ∷ [])) ∷
     ("T ( ) . a", postfix (expr (e.OfType (type_name "T") (given.Args (args [])))) (m.Member reach.Dot (plain_name "a") ∷ [])) ∷
     ("T ( a ) ( b )", postfix (expr (e.OfType (type_name "T") (given.Args (args (name "a" ∷ []))))) (m.Call (args (name "b" ∷ [])) ∷ [])) ∷
-    ("int ( a ) ++", postfix (expr (e.OfWord w.Int (given.Args (args (name "a" ∷ []))))) (m.Increment ∷ [])) ∷
+    ("int ( a ) ++", postfix (expr (e.OfWord (simple w.Int) (given.Args (args (name "a" ∷ []))))) (m.Increment ∷ [])) ∷
     ("( a ) ++", postfix (paren (name "a")) (m.Increment ∷ [])) ∷
-    (":: a ( b )", postfix (expr (e.Name true (plain_name "a"))) (m.Call (args (name "b" ∷ [])) ∷ [])) ∷
-    ("n :: a ( b )", postfix (expr (e.Name false (name_in ("n" ∷ []) "a"))) (m.Call (args (name "b" ∷ [])) ∷ [])) ∷
-    ("T :: a ( b )", postfix (expr (e.Name false (name_in ("T" ∷ []) "a"))) (m.Call (args (name "b" ∷ [])) ∷ [])) ∷
+    (":: a ( b )", postfix (expr (e.Name (in_global (plain_name "a")))) (m.Call (args (name "b" ∷ [])) ∷ [])) ∷
+    ("n :: a ( b )", postfix (expr (e.Name (name_in ("n" ∷ []) "a"))) (m.Call (args (name "b" ∷ [])) ∷ [])) ∷
+    ("T :: a ( b )", postfix (expr (e.Name (name_in ("T" ∷ []) "a"))) (m.Call (args (name "b" ∷ [])) ∷ [])) ∷
     ("nullptr ( )", postfix (expr e.Nullptr) (m.Call (args []) ∷ [])) ∷ []
 
 heads_hold : Hold heads
@@ -359,12 +358,12 @@ abbrev objects_of_a_named_type : List Row
 objects_of_a_named_type =
     ("T ( a )", expr (e.OfType (type_name "T") (given.Args (args (name "a" ∷ []))))) ∷
     ("T ( a , T ( b ) )", expr (e.OfType (type_name "T") (given.Args (args (name "a" ∷ expr (e.OfType (type_name "T") (given.Args (args (name "b" ∷ [])))) ∷ []))))) ∷
-    ("n :: T { a }", expr (e.OfType (type_in false ("n" ∷ []) "T") (given.Braces (braces (c.Expr (name "a") ∷ []))))) ∷
+    ("n :: T { a }", expr (e.OfType (type_in false ("n" ∷ []) "T") (given.Braces (braces (c.Value (name "a") ∷ []))))) ∷
     (":: T ( )", expr (e.OfType (type_in true [] "T") (given.Args (args [])))) ∷
     ("T :: U { }", expr (e.OfType (type_in false ("T" ∷ []) "U") (given.Braces (braces [])))) ∷
-    ("unsigned ( a )", expr (e.OfWord w.Unsigned (given.Args (args (name "a" ∷ []))))) ∷
-    ("auto { a }", expr (e.OfWord w.Auto (given.Braces (braces (c.Expr (name "a") ∷ []))))) ∷
-    ("void ( )", expr (e.OfWord w.Void (given.Args (args [])))) ∷ []
+    ("unsigned ( a )", expr (e.OfWord (simple w.Unsigned) (given.Args (args (name "a" ∷ []))))) ∷
+    ("auto { a }", expr (e.OfWord (simple w.Auto) (given.Braces (braces (c.Value (name "a") ∷ []))))) ∷
+    ("void ( )", expr (e.OfWord (simple w.Void) (given.Args (args [])))) ∷ []
 
 objects_of_a_named_type_hold : Hold objects_of_a_named_type
 unfolding words_a_to_c words_d_to_i words_l_to_r words_in_s words_t_to_w brackets_and_marks single_operators arrows_and_assignments comparisons_and_shifts name_class number_class same_class many_of many_when others_by links_of r.op r.last_part r.fname r.qtype r.named r.words_type r.name_type r.specs r.star r.ptrs r.bound r.typeid r.args r.paren_args r.clause r.clauses_in r.braces r.given r.string r.paren r.word_cast r.word_made r.id_expression r.type_made r.head_kind r.head r.subscript r.member_part r.member r.more_kind r.more r.postfix r.prefix r.delete r.new_bound r.new r.alignof_type r.sizeof_type r.sizeof_expr r.sizeof r.unary r.type_cast r.cast r.chain r.assigned r.choice r.chosen r.tail r.chain_or_more r.throw r.assign r.cond r.expr r.deeper
@@ -373,14 +372,14 @@ objects_of_a_named_type_hold = refl
 -- braced lists
 abbrev braced_lists : List Row
 braced_lists =
-    ("T { a , }", expr (e.OfType (type_name "T") (given.Braces (braces (c.Expr (name "a") ∷ []))))) ∷
-    ("T { a , b }", expr (e.OfType (type_name "T") (given.Braces (braces (c.Expr (name "a") ∷ c.Expr (name "b") ∷ []))))) ∷
-    ("T { { } , { a , } , { { b } } }", expr (e.OfType (type_name "T") (given.Braces (braces (c.Braces (braces []) ∷ c.Braces (braces (c.Expr (name "a") ∷ [])) ∷ c.Braces (braces (c.Braces (braces (c.Expr (name "b") ∷ [])) ∷ [])) ∷ []))))) ∷
-    ("T { a = b , throw }", expr (e.OfType (type_name "T") (given.Braces (braces (c.Expr (expr (e.Assign (name "a") a.Plain (name "b"))) ∷ c.Expr (expr (e.Throw None)) ∷ []))))) ∷
-    ("T { throw , }", expr (e.OfType (type_name "T") (given.Braces (braces (c.Expr (expr (e.Throw None)) ∷ []))))) ∷
-    ("T { a ? b : c }", expr (e.OfType (type_name "T") (given.Braces (braces (c.Expr (expr (e.Conditional (name "a") (name "b") (name "c"))) ∷ []))))) ∷
-    ("new T { { 1 } , 2 , }", new (of_name (type_name "T")) [] None (Some (given.Braces (braces (c.Braces (braces (c.Expr (number 1) ∷ [])) ∷ c.Expr (number 2) ∷ []))))) ∷
-    ("int { T { 1 } }", expr (e.OfWord w.Int (given.Braces (braces (c.Expr (expr (e.OfType (type_name "T") (given.Braces (braces (c.Expr (number 1) ∷ []))))) ∷ []))))) ∷ []
+    ("T { a , }", expr (e.OfType (type_name "T") (given.Braces (braces (c.Value (name "a") ∷ []))))) ∷
+    ("T { a , b }", expr (e.OfType (type_name "T") (given.Braces (braces (c.Value (name "a") ∷ c.Value (name "b") ∷ []))))) ∷
+    ("T { { } , { a , } , { { b } } }", expr (e.OfType (type_name "T") (given.Braces (braces (c.Nested (braces []) ∷ c.Nested (braces (c.Value (name "a") ∷ [])) ∷ c.Nested (braces (c.Nested (braces (c.Value (name "b") ∷ [])) ∷ [])) ∷ []))))) ∷
+    ("T { a = b , throw }", expr (e.OfType (type_name "T") (given.Braces (braces (c.Value (expr (e.Assign (name "a") a.Plain (name "b"))) ∷ c.Value (expr (e.Throw None)) ∷ []))))) ∷
+    ("T { throw , }", expr (e.OfType (type_name "T") (given.Braces (braces (c.Value (expr (e.Throw None)) ∷ []))))) ∷
+    ("T { a ? b : c }", expr (e.OfType (type_name "T") (given.Braces (braces (c.Value (expr (e.Conditional (name "a") (name "b") (name "c"))) ∷ []))))) ∷
+    ("new T { { 1 } , 2 , }", new (of_name (type_name "T")) [] None (Some (given.Braces (braces (c.Nested (braces (c.Value (number 1) ∷ [])) ∷ c.Value (number 2) ∷ []))))) ∷
+    ("int { T { 1 } }", expr (e.OfWord (simple w.Int) (given.Braces (braces (c.Value (expr (e.OfType (type_name "T") (given.Braces (braces (c.Value (number 1) ∷ []))))) ∷ []))))) ∷ []
 
 braced_lists_hold : Hold braced_lists
 unfolding words_a_to_c words_d_to_i words_l_to_r words_in_s words_t_to_w brackets_and_marks single_operators arrows_and_assignments comparisons_and_shifts name_class number_class same_class many_of many_when others_by links_of r.op r.last_part r.fname r.qtype r.named r.words_type r.name_type r.specs r.star r.ptrs r.bound r.typeid r.args r.paren_args r.clause r.clauses_in r.braces r.given r.string r.paren r.word_cast r.word_made r.id_expression r.type_made r.head_kind r.head r.subscript r.member_part r.member r.more_kind r.more r.postfix r.prefix r.delete r.new_bound r.new r.alignof_type r.sizeof_type r.sizeof_expr r.sizeof r.unary r.type_cast r.cast r.chain r.assigned r.choice r.chosen r.tail r.chain_or_more r.throw r.assign r.cond r.expr r.deeper

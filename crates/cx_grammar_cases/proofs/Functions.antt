@@ -7,7 +7,6 @@ use Rattle.cx_tree.specs.declared.decls.EntityKind.TheVariants as entities
 use Rattle.cx_tree.specs.declared.decls.Tail.TheVariants as tail
 use Rattle.cx_tree.specs.declared.decls.Virtual.TheVariants as virtual
 use Rattle.cx_tree.specs.declared.exprs.ExprKind.TheVariants as e
-use Rattle.cx_tree.specs.declared.names.Last.TheVariants as last
 use Rattle.cx_tree.specs.declared.operators.AssignOp.TheVariants as a
 use Rattle.cx_tree.specs.declared.operators.BinaryOp.TheVariants as o
 use Rattle.cx_tree.specs.declared.operators.Overloaded.TheVariants as v
@@ -28,7 +27,7 @@ use Rattle.cx_syntax_stmts.specs.Ahead as ahead
 use Rattle.cx_syntax_stmts.specs.Readers as stmts
 use Rattle.cx_syntax_decls.specs.Readers as decls
 use Rattle.cx_grammar_cases.proofs.Words.{tree, answer, text}
-use Rattle.cx_grammar_cases.proofs.Trees.{scoped, name_in, plain_name, operator_name, type_in, type_name, a_struct, an_enum, untyped, worded, named, specs, of_word, of_name, pointers, bound, unbounded, expr, name, number, paren}
+use Rattle.cx_grammar_cases.proofs.Trees.{scoped, name_in, plain_name, operator_name, type_in, type_name, a_struct, an_enum, untyped, worded, named, specs, of_word, of_name, pointers, bound, unbounded, expr, name, number, paren, operator}
 use Rattle.cx_grammar_cases.proofs.Declared.{param, block, function, plain_function, entity, class, decl, unit, stmt}
 
 -- a unit and its tree
@@ -59,9 +58,9 @@ heads_and_ends_hold = refl
 -- names
 abbrev names_of_all_kinds : List Row
 names_of_all_kinds =
-    ("int n :: S :: f ( int ) const { return 1 ; } struct S ;", unit (decl (d.Entity (entity 0 (of_word w.Int) (entities.Function (function (pointers [] false) (name_in ("n" ∷ "S" ∷ []) "f") (param 0 (of_word w.Int) (pointers [] false) None [] None ∷ []) true 0 [] (body.Block (block (item.Stmt (stmt (s.Return (Some (returned.Expr (number 1))))) ∷ []))))))) ∷ decl (d.Class (class key.Struct 0 "S" None)) ∷ [])) ∷
+    ("int n :: S :: f ( int ) const { return 1 ; } struct S ;", unit (decl (d.Entity (entity 0 (of_word w.Int) (entities.Function (function (pointers [] false) (name_in ("n" ∷ "S" ∷ []) "f") (param 0 (of_word w.Int) (pointers [] false) None [] None ∷ []) true 0 [] (body.Block (block (item.Stmt (stmt (s.Return (Some (returned.Value (number 1))))) ∷ []))))))) ∷ decl (d.Class (class key.Struct 0 "S" None)) ∷ [])) ∷
     ("Size Size :: f ( ) ;", unit (decl (d.Entity (entity 0 (of_name (type_name "Size")) (entities.Function (plain_function (pointers [] false) (name_in ("Size" ∷ []) "f") [] (body.Tail tail.Plain))))) ∷ [])) ∷
-    ("int n :: operator + ( int ) ;", unit (decl (d.Entity (entity 0 (of_word w.Int) (entities.Function (plain_function (pointers [] false) (scoped ("n" ∷ []) (last.Operator (v.Binary o.Add))) (param 0 (of_word w.Int) (pointers [] false) None [] None ∷ []) (body.Tail tail.Plain))))) ∷ [])) ∷
+    ("int n :: operator + ( int ) ;", unit (decl (d.Entity (entity 0 (of_word w.Int) (entities.Function (plain_function (pointers [] false) (scoped ("n" ∷ []) (operator (v.Binary o.Add))) (param 0 (of_word w.Int) (pointers [] false) None [] None ∷ []) (body.Tail tail.Plain))))) ∷ [])) ∷
     ("int operator ( ) ( ) ; int operator [ ] ( ) ; int operator -> ( ) ;", unit (decl (d.Entity (entity 0 (of_word w.Int) (entities.Function (plain_function (pointers [] false) (operator_name v.Call) [] (body.Tail tail.Plain))))) ∷ decl (d.Entity (entity 0 (of_word w.Int) (entities.Function (plain_function (pointers [] false) (operator_name v.Subscript) [] (body.Tail tail.Plain))))) ∷ decl (d.Entity (entity 0 (of_word w.Int) (entities.Function (plain_function (pointers [] false) (operator_name v.Arrow) [] (body.Tail tail.Plain))))) ∷ [])) ∷
     ("int operator ~ ( ) ; int operator ! ( ) ; int operator ++ ( ) ; int operator -- ( ) ;", unit (decl (d.Entity (entity 0 (of_word w.Int) (entities.Function (plain_function (pointers [] false) (operator_name v.Complement) [] (body.Tail tail.Plain))))) ∷ decl (d.Entity (entity 0 (of_word w.Int) (entities.Function (plain_function (pointers [] false) (operator_name v.Not) [] (body.Tail tail.Plain))))) ∷ decl (d.Entity (entity 0 (of_word w.Int) (entities.Function (plain_function (pointers [] false) (operator_name v.Increment) [] (body.Tail tail.Plain))))) ∷ decl (d.Entity (entity 0 (of_word w.Int) (entities.Function (plain_function (pointers [] false) (operator_name v.Decrement) [] (body.Tail tail.Plain))))) ∷ [])) ∷
     ("int operator = ( ) ; int operator += ( ) ; int operator <<= ( ) ; int operator |= ( ) ;", unit (decl (d.Entity (entity 0 (of_word w.Int) (entities.Function (plain_function (pointers [] false) (operator_name (v.Assign a.Plain)) [] (body.Tail tail.Plain))))) ∷ decl (d.Entity (entity 0 (of_word w.Int) (entities.Function (plain_function (pointers [] false) (operator_name (v.Assign a.Add)) [] (body.Tail tail.Plain))))) ∷ decl (d.Entity (entity 0 (of_word w.Int) (entities.Function (plain_function (pointers [] false) (operator_name (v.Assign a.ShiftLeft)) [] (body.Tail tail.Plain))))) ∷ decl (d.Entity (entity 0 (of_word w.Int) (entities.Function (plain_function (pointers [] false) (operator_name (v.Assign a.BitOr)) [] (body.Tail tail.Plain))))) ∷ [])) ∷

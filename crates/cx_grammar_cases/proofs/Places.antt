@@ -11,6 +11,7 @@ use Rattle.cx_tree.specs.declared.names.Last.TheVariants as last
 use Rattle.cx_tree.specs.declared.names.TypeName.{TypeName}
 use Rattle.cx_tree.specs.declared.operators.BinaryOp.{BinaryOp}
 use Rattle.cx_tree.specs.declared.operators.BinaryOp.TheVariants as o
+use Rattle.cx_tree.specs.declared.operators.Overloaded.TheVariants as v
 use Rattle.cx_tree.specs.declared.specifiers.Ptrs.{Ptrs}
 use Rattle.cx_tree.specs.declared.specifiers.Specs.{Specs}
 use Rattle.cx_tree.specs.declared.specifiers.SpecsType.TheVariants as specified
@@ -79,10 +80,10 @@ abbrev expr : ℕ → ℕ → ExprKind → Expr
 expr first behind kind = roll-Expr (record { extent = to first behind; kind = kind })
 
 abbrev name : ℕ → String → FunctionName
-name at t = record { scopes = []; last = last.Ident (ident at t); span = to at (at + 1) }
+name at t = record { global = false; scopes = []; last = last.Ident (ident at t); span = to at (at + 1) }
 
 abbrev named : ℕ → String → Expr
-named at t = expr at (at + 1) (e.Name false (name at t))
+named at t = expr at (at + 1) (e.Name (name at t))
 
 abbrev number : ℕ → ℕ → Expr
 number at n = expr at (at + 1) (e.Number (record { ty = ty.Int; value = pos n }))
@@ -110,8 +111,8 @@ exprs =
     ("throw a , b", expr 0 4 (e.Comma (expr 0 2 (e.Throw (Some (named 1 "a")))) (named 3 "b" ∷ []))) ∷
     ("a [ b ] ++", expr 0 5 (e.Postfix (named 0 "a") (part 1 4 (m.Subscript (named 2 "b")) ∷ part 4 5 m.Increment ∷ []))) ∷
     ("f ( a , b )", expr 0 6 (e.Postfix (named 0 "f") (part 1 6 (m.Call (roll-Args (record { items = named 2 "a" ∷ named 4 "b" ∷ []; span = to 1 6 }))) ∷ []))) ∷
-    ("a . b -> ~ T ( )", expr 0 8 (e.Postfix (named 0 "a") (part 1 3 (m.Member reach.Dot (name 2 "b")) ∷ part 3 8 (m.Destroy reach.Arrow (ident 5 "T")) ∷ []))) ∷
-    ("T { a , { b } }", expr 0 8 (e.OfType (type_name 0 "T") (given.Braces (braces 1 8 (c.Expr (named 2 "a") ∷ c.Braces (braces 4 7 (c.Expr (named 5 "b") ∷ [])) ∷ []))))) ∷ (
+    ("a . b -> ~ T ( )", expr 0 8 (e.Postfix (named 0 "a") (part 1 3 (m.Member reach.Dot (name 2 "b")) ∷ part 3 8 (m.Destroy reach.Arrow (record { class = ident 5 "T"; span = to 4 6 })) ∷ []))) ∷
+    ("T { a , { b } }", expr 0 8 (e.OfType (type_name 0 "T") (given.Braces (braces 1 8 (c.Value (named 2 "a") ∷ c.Nested (braces 4 7 (c.Value (named 5 "b") ∷ [])) ∷ []))))) ∷ (
       "( T * ) a",
       expr 0 5 (e.Cast (roll-TypeId (record {
         specs = record { modifiers = []; ty = specified.Named (record { word = None; name = type_name 1 "T" }) []; span = to 1 2 };
@@ -120,8 +121,13 @@ exprs =
         span = to 1 3;
       })) (named 4 "a")),
     ) ∷
-    ("n :: a", expr 0 3 (e.Name false (record { scopes = ident 0 "n" ∷ []; last = last.Ident (ident 2 "a"); span = to 0 3 }))) ∷
-    (":: a", expr 0 2 (e.Name true (name 1 "a"))) ∷ []
+    ("n :: a", expr 0 3 (e.Name (record { global = false; scopes = ident 0 "n" ∷ []; last = last.Ident (ident 2 "a"); span = to 0 3 }))) ∷
+    (":: a", expr 0 2 (e.Name (record { global = true; scopes = []; last = last.Ident (ident 1 "a"); span = to 0 2 }))) ∷
+    -- an operator's name from the word on, and the whole name
+    (":: T :: operator ( )", expr 0 6 (e.Name (record { global = true; scopes = ident 1 "T" ∷ []; last = last.Operator (record { operator = v.Call; span = to 3 6 }); span = to 0 6 }))) ∷
+    ("a . operator +", expr 0 4 (e.Postfix (named 0 "a") (part 1 4 (m.Member reach.Dot (record { global = false; scopes = []; last = last.Operator (record { operator = v.Binary o.Add; span = to 2 4 }); span = to 2 4 })) ∷ []))) ∷
+    -- the word of a fundamental type
+    ("int { a }", expr 0 4 (e.OfWord (record { word = w.Int; span = to 0 1 }) (given.Braces (braces 1 4 (c.Value (named 2 "a") ∷ []))))) ∷ []
 
 exprs_hold : map (λ row. answer (r.expr (r.deeper 3) (placed row.0))) exprs ≡ map (λ row. tree row.1) exprs
 unfolding words_a_to_c words_d_to_i words_l_to_r words_in_s words_t_to_w brackets_and_marks single_operators arrows_and_assignments comparisons_and_shifts name_class number_class same_class many_of many_when others_by links_of ahead.type_end r.op r.last_part r.fname r.qtype r.named r.words_type r.name_type r.specs r.star r.ptrs r.bound r.typeid r.args r.paren_args r.clause r.clauses_in r.braces r.given r.string r.paren r.word_cast r.word_made r.id_expression r.type_made r.head_kind r.head r.subscript r.member_part r.member r.more_kind r.more r.postfix r.prefix r.delete r.new_bound r.new r.alignof_type r.sizeof_type r.sizeof_expr r.sizeof r.unary r.type_cast r.cast r.chain r.assigned r.choice r.chosen r.tail r.chain_or_more r.throw r.assign r.cond r.expr r.deeper parts.soup_over parts.deeper_soup parts.tail parts.virt parts.pieces parts.attribute parts.attrs parts.noex parts.assert parts.alias parts.enumr parts.enums parts.enum_end parts.named parts.unnamed parts.scoped_enum parts.unscoped_kind parts.enum_kind parts.enum vars.specs_before vars.typedef vars.equals_value vars.init_args vars.paren_init vars.init_kind vars.init vars.name_attrs vars.var vars.vars vars.default_argument vars.param vars.params vars.declared vars.local vars.bare_local stmts.range_ahead stmts.case_label stmts.default_label stmts.label stmts.expr_stmt stmts.returned stmts.return_stmt stmts.break_stmt stmts.continue_stmt stmts.empty_stmt stmts.for_start stmts.for_steps stmts.for_range stmts.for_head stmts.block_with stmts.if_stmt stmts.while_stmt stmts.do_stmt stmts.for_stmt stmts.switch_item stmts.switch_stmt stmts.jump_stmt stmts.loop_stmt stmts.stmt_kind stmts.stmt_with stmts.behind_attrs stmts.plain_item stmts.item_with stmts.deeper decls.member_name decls.paren_params decls.body decls.function_end decls.function decls.vars_end decls.entity_kind decls.entity_end decls.entity decls.minit decls.minits decls.ctor_body decls.ctor_end decls.dtor_end decls.ctor decls.dtor decls.behind_attrs decls.member_function decls.base decls.bases decls.members decls.class_body decls.class_end decls.class_over decls.declared_member decls.member_kind decls.member_over decls.deeper_member decls.space_names decls.decls decls.space_over decls.declared decls.decl_kind decls.decl_over decls.deeper_decl decls.unit

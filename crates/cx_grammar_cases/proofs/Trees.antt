@@ -1,10 +1,11 @@
 -- The trees of expressions in short words. All places are one.
-use Rattle.std.proofs.Common.{ℕ, Bool, false, List, [], ◌∷◌, map, Option, None, pos}
+use Rattle.std.proofs.Common.{ℕ, Bool, true, false, List, [], ◌∷◌, map, Option, None, pos}
 use Prim.Native.String.{String}
 use Rattle.std.specs.Prelude.{codes}
 use Rattle.cx_base.specs.declared.int_type.IntType.TheVariants as ty
 use Rattle.cx_tree.specs.declared.names.Ident.{Ident}
 use Rattle.cx_tree.specs.declared.names.TypeName.{TypeName}
+use Rattle.cx_tree.specs.declared.names.DestructorName.{DestructorName}
 use Rattle.cx_tree.specs.declared.names.FunctionName.{FunctionName}
 use Rattle.cx_tree.specs.declared.names.Last.{Last}
 use Rattle.cx_tree.specs.declared.names.Last.TheVariants as last
@@ -16,6 +17,7 @@ use Rattle.cx_tree.specs.declared.specifiers.Elaboration.{Elaboration}
 use Rattle.cx_tree.specs.declared.specifiers.Elaboration.TheVariants as elaboration
 use Rattle.cx_tree.specs.declared.specifiers.ModifierWord.{ModifierWord}
 use Rattle.cx_tree.specs.declared.specifiers.Modifier.{Modifier}
+use Rattle.cx_tree.specs.declared.specifiers.SimpleType.{SimpleType}
 use Rattle.cx_tree.specs.declared.specifiers.TypeWord.{TypeWord}
 use Rattle.cx_tree.specs.declared.specifiers.WordOrModifier.{WordOrModifier}
 use Rattle.cx_tree.specs.declared.specifiers.WordOrModifier.TheVariants as either
@@ -45,7 +47,20 @@ abbrev pub ident : String → Ident
 ident t = record { text = codes t; span = no_span }
 
 abbrev pub scoped : List String → Last → FunctionName
-scoped scopes l = record { scopes = map ident scopes; last = l; span = no_span }
+scoped scopes l = record { global = false; scopes = map ident scopes; last = l; span = no_span }
+
+-- the same with `::` before it
+abbrev pub in_global : FunctionName → FunctionName
+in_global name = record name { global = true }
+
+abbrev pub operator : Overloaded → Last
+operator o = last.Operator (record { operator = o; span = no_span })
+
+abbrev pub destructor_name : String → DestructorName
+destructor_name t = record { class = ident t; span = no_span }
+
+abbrev pub simple : TypeWord → SimpleType
+simple w = record { word = w; span = no_span }
 
 abbrev pub name_in : List String → String → FunctionName
 name_in scopes t = scoped scopes (last.Ident (ident t))
@@ -54,7 +69,7 @@ abbrev pub plain_name : String → FunctionName
 plain_name t = name_in [] t
 
 abbrev pub operator_name : Overloaded → FunctionName
-operator_name o = scoped [] (last.Operator o)
+operator_name o = scoped [] (operator o)
 
 abbrev pub type_in : Bool → List String → String → TypeName
 type_in global scopes t = record { global = global; scopes = map ident scopes; name = ident t; span = no_span }
@@ -128,7 +143,7 @@ abbrev pub expr : ExprKind → Expr
 expr kind = roll-Expr (record { extent = no_span; kind = kind })
 
 abbrev pub name : String → Expr
-name t = expr (e.Name false (plain_name t))
+name t = expr (e.Name (plain_name t))
 
 abbrev pub number : ℕ → Expr
 number n = expr (e.Number (record { ty = ty.Int; value = pos n }))

@@ -111,11 +111,11 @@ module _ (at : Span) where
   throw = search (rules, exprs.the_lemmas)
 
   -- int{}
-  empty_braces : levels_of_expr (expr (k.OfWord Int (g.Braces (braces [])))) ≡ 0
+  empty_braces : levels_of_expr (expr (k.OfWord (record { word = Int; span = at }) (g.Braces (braces [])))) ≡ 0
   empty_braces = search (rules, exprs.the_lemmas)
 
   -- int{{this}, this}
-  nested_braces : levels_of_expr (expr (k.OfWord Int (g.Braces (braces (c.Braces (braces (c.Expr this ∷ [])) ∷ c.Expr this ∷ []))))) ≡ 2
+  nested_braces : levels_of_expr (expr (k.OfWord (record { word = Int; span = at }) (g.Braces (braces (c.Nested (braces (c.Value this ∷ [])) ∷ c.Value this ∷ []))))) ≡ 2
   nested_braces = search (rules, exprs.the_lemmas)
 
   abbrev stmt : ℕ → StmtKind → Stmt

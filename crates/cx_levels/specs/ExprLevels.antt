@@ -19,9 +19,9 @@ use Rattle.cx_levels.specs.Levels.{greatest, deeper, perhaps}
 
 abbrev pub clause_step : Clause-F ℕ ℕ ℕ ℕ ℕ ℕ ℕ ℕ ℕ ℕ ℕ ℕ → ℕ
 -- e^
-clause_step (Clause-F.Expr e) = suc e
+clause_step (Clause-F.Value e) = suc e
 -- { .. }^
-clause_step (Clause-F.«Clause::Braces» b) = suc b
+clause_step (Clause-F.Nested b) = suc b
 
 abbrev pub kind_step : ExprKind-F ℕ ℕ ℕ ℕ ℕ ℕ ℕ ℕ ℕ ℕ ℕ ℕ → ℕ
 kind_step (ExprKind-F.Number n) = 0
@@ -33,7 +33,7 @@ kind_step ExprKind-F.Nullptr = 0
 kind_step ExprKind-F.This = 0
 -- ( e^ )
 kind_step (ExprKind-F.Paren e) = suc e
-kind_step (ExprKind-F.Name global name) = 0
+kind_step (ExprKind-F.Name name) = 0
 -- int(..), int{..}
 kind_step (ExprKind-F.OfWord word given) = given
 -- T(..), T{..}
@@ -68,7 +68,7 @@ kind_step (ExprKind-F.Comma e others) = max e (greatest others)
 
 abbrev pub given_step : Given-F ℕ ℕ ℕ ℕ ℕ ℕ ℕ ℕ ℕ ℕ ℕ ℕ → ℕ
 given_step (Given-F.Args a) = a
-given_step (Given-F.«Given::Braces» b) = b
+given_step (Given-F.Braces b) = b
 
 abbrev pub part_step : MoreKind-F ℕ ℕ ℕ ℕ ℕ ℕ ℕ ℕ ℕ ℕ ℕ ℕ → ℕ
 -- [ e^ ]

@@ -50,9 +50,9 @@ levels_of_enumeration e = max e.attrs (levels_of_enumeration_kind e.kind)
 -- = e, = {..}, {..}, (..)
 abbrev pub levels_of_init_kind : InitKind → ℕ
 levels_of_init_kind (i.Equals e) = levels_of_expr e
-levels_of_init_kind (i.EqualsBraces b) = levels_of_braces b
-levels_of_init_kind (i.Braces b) = levels_of_braces b
-levels_of_init_kind (i.Args a) = levels_of_args a
+levels_of_init_kind (i.EqualsList b) = levels_of_braces b
+levels_of_init_kind (i.DirectList b) = levels_of_braces b
+levels_of_init_kind (i.Direct a) = levels_of_args a
 
 abbrev pub levels_of_init : Init → ℕ
 levels_of_init init = levels_of_init_kind init.kind
@@ -80,8 +80,8 @@ levels_of_label l = levels_of_label_kind l.kind
 
 -- return e, return {..}
 abbrev pub levels_of_returned : Returned → ℕ
-levels_of_returned (r.Expr e) = levels_of_expr e
-levels_of_returned (r.Braces b) = levels_of_braces b
+levels_of_returned (r.Value e) = levels_of_expr e
+levels_of_returned (r.List b) = levels_of_braces b
 
 abbrev pub item_step : Item-F ℕ ℕ ℕ ℕ ℕ → ℕ
 item_step (Item-F.Stmt s) = s

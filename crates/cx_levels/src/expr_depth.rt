@@ -17,7 +17,7 @@ pub fn expr_levels(expr: &Expr) -> u32
 {
     match &expr.kind {
         ExprKind::Paren(inner) => 1 + expr_levels(inner.get()),
-        ExprKind::OfWord(_, given) | ExprKind::OfType(_, given) => given_levels(given),
+        ExprKind::OfWord(_, given) | ExprKind::OfType(_, given) => given_levels(given.get()),
         ExprKind::NamedCast(_, ty, operand) | ExprKind::Cast(ty, operand) => {
             type_id_levels(ty.get()).max(1 + expr_levels(operand.get()))
         }
@@ -125,8 +125,8 @@ fn clause_levels(clause: &Clause) -> u32
     ensures { result ≡ levels_of_clause clause.now }
 {
     match clause {
-        Clause::Expr(expr) => 1 + expr_levels(expr),
-        Clause::Braces(braces) => 1 + braces_levels(braces),
+        Clause::Value(expr) => 1 + expr_levels(expr),
+        Clause::Nested(braces) => 1 + braces_levels(braces),
     }
 }
 

@@ -100,8 +100,8 @@ fn init_levels(init: &Init) -> u32
 {
     match &init.kind {
         InitKind::Equals(value) => expr_levels(value),
-        InitKind::EqualsBraces(braces) | InitKind::Braces(braces) => braces_levels(braces),
-        InitKind::Args(args) => args_levels(args),
+        InitKind::EqualsList(braces) | InitKind::DirectList(braces) => braces_levels(braces),
+        InitKind::Direct(args) => args_levels(args),
     }
 }
 
@@ -141,8 +141,8 @@ fn returned_levels(returned: &Option<Returned>) -> u32
     ensures { result ≡ perhaps levels_of_returned returned.now }
 {
     match returned {
-        Some(Returned::Expr(value)) => expr_levels(value),
-        Some(Returned::Braces(braces)) => braces_levels(braces),
+        Some(Returned::Value(value)) => expr_levels(value),
+        Some(Returned::List(braces)) => braces_levels(braces),
         None => 0,
     }
 }

@@ -48,7 +48,7 @@ use Rattle.cx_syntax.specs.Classes.{class_at, is, same_class}
 use Rattle.cx_syntax.specs.Linked.{read_then, links_of}
 use Rattle.cx_syntax.specs.Ahead.{qtype_ahead, type_ahead, type_fault, fault_at}
 use Rattle.cx_syntax.specs.Sets.{is_type, is_id, is_name, is_modifier, is_word, is_modifier_or_word, is_elaboration, is_single_operator, is_literal, is_string, is_cast_word, is_step, is_reach, is_prefix, is_assignment, allowed, starts_last, starts_typed, starts_given, starts_more, starts_unary, starts_assign, starts_clause, starts_tail}
-use Rattle.cx_syntax.specs.Values.{pick, span_of, ident_of, text_of, literal_of, modifier_of, word_of, either_of, elaboration_of, overloaded_of, binary_of, assignment_of, prefix_of, step_of, reach_of, cast_word_of, function_name, type_name, named_of, is_specified, words_of, named_type, specs_of, star_of, ptrs_of, bound_of, typeid_of, expr_of, args_of, braces_of, name_of, made_of_word, made_of_type, named_cast, member_of, more_of, postfixed, Operand, closed, closed_kind, prefixed, sizeof_operand, deleted, new_operand, cast_of, Turn, ends_open, chained, assigned_of, chosen_of, tailed, condition, thrown, comma_of}
+use Rattle.cx_syntax.specs.Values.{pick, span_of, ident_of, text_of, literal_of, modifier_of, word_of, either_of, elaboration_of, overloaded_of, binary_of, assignment_of, prefix_of, step_of, reach_of, cast_word_of, operator_named, destructor_named, function_name, type_name, named_of, is_specified, words_of, named_type, specs_of, star_of, ptrs_of, bound_of, typeid_of, expr_of, args_of, braces_of, name_of, made_of_word, made_of_type, named_cast, member_of, more_of, postfixed, Operand, closed, closed_kind, prefixed, sizeof_operand, deleted, new_operand, cast_of, Turn, ends_open, chained, assigned_of, chosen_of, tailed, condition, thrown, comma_of}
 use Rattle.cx_syntax.specs.Ahead.{name_fault}
 use Rattle.cx_syntax.specs.Sets.{is_operator_word, follows_name}
 use Rattle.cx_syntax.specs.Readers as r
@@ -81,11 +81,17 @@ keeps_op = keeps_choose (just k.OpenParen) (keeps_as (λ _. v.Call) (before k.Op
 
 keeps_last_part : Keeps r.last_part
 unfolding r.last_part
-keeps_last_part = keeps_choose is_id (keeps_as last.Ident (one (pick is_id ident_of))) (keeps_as last.Operator (before k.Operator keeps_op))
+keeps_last_part = keeps_choose is_id (keeps_as last.Ident (one (pick is_id ident_of))) (keeps_as last.Operator (keeps_as operator_named (keeps_measured span_of (before k.Operator keeps_op))))
+
+keeps_fname_parts : Keeps r.fname_parts
+keeps_fname_parts = keeps_names (pick is_name ident_of) (is k.ColonColon) (of class_at is_name) (of class_at starts_last) keeps_last_part
 
 keeps_fname : Keeps r.fname
 unfolding r.fname
-keeps_fname = keeps_as function_name (keeps_measured span_of (keeps_names (pick is_name ident_of) (is k.ColonColon) (of class_at is_name) (of class_at starts_last) keeps_last_part))
+keeps_fname = keeps_as function_name (keeps_measured span_of keeps_fname_parts)
+
+keeps_destructor_name : Keeps r.destructor_name
+keeps_destructor_name = keeps_as destructor_named (keeps_measured span_of (before k.Tilde (one (pick is_type ident_of))))
 
 keeps_qtype : Keeps r.qtype
 unfolding r.qtype
@@ -158,7 +164,7 @@ module _ (d : r.Readers) (h : Kept d) where
 
   keeps_clause : Keeps (r.clause d)
   unfolding r.clause
-  keeps_clause = keeps_choose (just k.OpenBrace) (keeps_as clauses.Braces h.braces) (keeps_as clauses.Expr h.assign)
+  keeps_clause = keeps_choose (just k.OpenBrace) (keeps_as clauses.Nested h.braces) (keeps_as clauses.Value h.assign)
 
   pub short_clause : Shortens (r.other_clause d)
   short_clause = shortens_of (shrinks_before (is k.Comma) keeps_clause)
@@ -193,7 +199,7 @@ module _ (d : r.Readers) (h : Kept d) where
 
   keeps_id_expression : Keeps (r.id_expression d)
   unfolding r.id_expression
-  keeps_id_expression = keeps_as name_of (keeps_both (keeps_maybe (is k.ColonColon) (a k.ColonColon)) keeps_fname)
+  keeps_id_expression = keeps_as name_of (keeps_measured span_of (keeps_both (keeps_maybe (is k.ColonColon) (a k.ColonColon)) keeps_fname_parts))
 
   keeps_type_made : Keeps (r.type_made d)
   unfolding r.type_made
@@ -213,7 +219,7 @@ module _ (d : r.Readers) (h : Kept d) where
 
   keeps_member_part : Keeps (r.member_part d)
   unfolding r.member_part
-  keeps_member_part = keeps_choose (just k.Tilde) (keeps_as part.Destructor (before k.Tilde (behind k.CloseParen (behind k.OpenParen (one (pick is_type ident_of)))))) (keeps_as part.Name keeps_fname)
+  keeps_member_part = keeps_choose (just k.Tilde) (keeps_as part.Destructor (behind k.CloseParen (behind k.OpenParen keeps_destructor_name))) (keeps_as part.Name keeps_fname)
 
   shrinks_member : Shrinks (r.member d)
   unfolding r.member

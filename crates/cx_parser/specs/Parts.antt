@@ -14,10 +14,10 @@ use Rattle.cx_syntax.specs.declared.parts.MemberPart.TheVariants as part
 use Rattle.cx_syntax.specs.declared.class.Class.TheVariants as k
 use Rattle.cx_syntax.specs.declared.lexeme.Lexeme.{Lexeme}
 use Rattle.cx_grammar.specs.Sets.{of}
-use Rattle.cx_grammar.specs.Reading.{Reader, token, the, maybe_if, made, guarded, ◌<$>◌, ◌>>◌, ◌⊳◌, ◌⊲◌}
+use Rattle.cx_grammar.specs.Reading.{Reader, token, the, maybe_if, made, guarded, measured_by, ◌<$>◌, ◌>>◌, ◌⊳◌, ◌⊲◌}
 use Rattle.cx_syntax.specs.Classes.{class_at, is}
 use Rattle.cx_syntax.specs.Sets.{starts_assign, starts_clause, starts_given, starts_tail, is_reach}
-use Rattle.cx_syntax.specs.Values.{pick, Turn, Operand, operation_of, last_open, name_of, member_of, reach_of, expr_of}
+use Rattle.cx_syntax.specs.Values.{pick, span_of, Turn, Operand, operation_of, last_open, name_of, member_of, reach_of, expr_of}
 use Rattle.cx_syntax.specs.Readers as r
 
 -- arguments, perhaps none
@@ -60,11 +60,11 @@ turned d p open_new ts = made (operations open_new) (r.turns d p (r.chain d p) o
 
 -- a name that is an expression
 abbrev pub id_expression : Reader Lexeme ExprKind
-id_expression = name_of <$> (r.colons >> r.fname)
+id_expression = name_of <$> measured_by span_of (r.colons >> r.fname_parts)
 
 -- what stands behind `.` or `->`
 abbrev pub member_part : Reader Lexeme MemberPart
-member_part = r.choose (r.just k.Tilde) (part.Destructor <$> (is k.Tilde ⊳ r.type_only ⊲ is k.OpenParen ⊲ is k.CloseParen)) (part.Name <$> r.fname)
+member_part = r.choose (r.just k.Tilde) (part.Destructor <$> (r.destructor_name ⊲ is k.OpenParen ⊲ is k.CloseParen)) (part.Name <$> r.fname)
 
 abbrev pub member : Reader Lexeme MoreKind
 member = member_of <$> (token (pick is_reach reach_of) >> member_part)

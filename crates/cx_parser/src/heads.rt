@@ -13,9 +13,9 @@ use cx_ahead::{
 };
 use cx_base::{List, Span};
 use cx_grammar::{Cursor, ParseStop};
-use cx_parser_names::{Piece, fname, is_there, maybe_one, piece, qtype, read_more};
-use cx_syntax::{Class, Lexeme};
-use cx_tree::{Expr, ExprKind};
+use cx_parser_names::{Piece, fname_parts, is_there, maybe_one, piece, qtype, read_more};
+use cx_syntax::{Class, Lexeme, span_of};
+use cx_tree::{Expr, ExprKind, FunctionName};
 use sqlite_items::Boxed;
 use std::alloc::{AllocError, Global};
 
@@ -32,9 +32,16 @@ pub fn node(alloc: Global, kind: ExprKind, extent: Span) -> Result<Boxed<Expr>, 
 fn id_expression(alloc: Global, tokens: &mut Cursor<'_, Lexeme>) -> Result<ExprKind, ParseStop>
     ensures { Reads (parts.id_expression tokens.old) result tokens.new }
 {
+    let from = tokens.rest();
     let colons = maybe_one(tokens, Class::ColonColon)?;
-    let name = fname(alloc, tokens)?;
-    Ok(ExprKind::Name(is_there(colons), Boxed::new(alloc, name)?))
+    let (scopes, last) = fname_parts(alloc, tokens)?;
+    let name = FunctionName {
+        global: is_there(colons),
+        scopes,
+        last,
+        span: span_of(tokens.since(from)),
+    };
+    Ok(ExprKind::Name(Boxed::new(alloc, name)?))
 }
 
 impl<R: Deeper> Grammar<R> {
@@ -74,7 +81,8 @@ impl<R: Deeper> Grammar<R> {
     {
         let name = qtype(self.alloc, tokens)?;
         let given = self.given(tokens)?;
-        Ok(ExprKind::OfType(Boxed::new(self.alloc, name)?, given))
+        let name = Boxed::new(self.alloc, name)?;
+        Ok(ExprKind::OfType(name, Boxed::new(self.alloc, given)?))
     }
 
     /// What a head is, to which operators behind it apply ([expr.prim], [expr.post]).
@@ -97,7 +105,8 @@ impl<R: Deeper> Grammar<R> {
             self.word_cast(tokens)
         } else if tokens.sees(&AnyTypeWord) {
             let word = tokens.take(&TypeWordIn)?;
-            Ok(ExprKind::OfWord(word, self.given(tokens)?))
+            let given = self.given(tokens)?;
+            Ok(ExprKind::OfWord(word, Boxed::new(self.alloc, given)?))
         } else if qtype_ahead(tokens.rest()) {
             self.type_made(tokens)
         } else {

@@ -138,9 +138,9 @@ impl<R: Deeper> Grammar<R> {
         ensures { Reads (spec.clause (deeper self.now.left) tokens.old) result tokens.new }
     {
         if tokens.sees(&Class::OpenBrace) {
-            Ok(Clause::Braces(self.rules.braces(self.alloc, tokens, self.left)?))
+            Ok(Clause::Nested(self.rules.braces(self.alloc, tokens, self.left)?))
         } else {
-            Ok(Clause::Expr(
+            Ok(Clause::Value(
                 self.rules
                     .assign(self.alloc, tokens, self.left)?
                     .into_inner(),

@@ -7,9 +7,9 @@ ghost use Rattle.cx_syntax.specs.Readers.{deeper};
 
 use crate::grammar::{Deeper, Grammar};
 use crate::heads::node;
-use cx_ahead::{ReachIn, StartsMore, Step, StepIn, Type};
+use cx_ahead::{ReachIn, StartsMore, Step, StepIn};
 use cx_grammar::{Cursor, ParseStop, Part, read_many};
-use cx_parser_names::{fname, ident};
+use cx_parser_names::{destructor_name, fname};
 use cx_syntax::{Class, Lexeme, span_of};
 use cx_tree::{Expr, ExprKind, More, MoreKind};
 use sqlite_items::Boxed;
@@ -25,8 +25,7 @@ fn member(alloc: Global, tokens: &mut Cursor<'_, Lexeme>) -> Result<MoreKind, Pa
         let name = fname(alloc, tokens)?;
         return Ok(MoreKind::Member(reach, Boxed::new(alloc, name)?));
     }
-    tokens.expect(&Class::Tilde)?;
-    let name = ident(alloc, tokens, &Type)?;
+    let name = destructor_name(alloc, tokens)?;
     tokens.expect(&Class::OpenParen)?;
     tokens.expect(&Class::CloseParen)?;
     Ok(MoreKind::Destroy(reach, name))

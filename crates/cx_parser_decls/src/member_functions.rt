@@ -12,11 +12,13 @@ use crate::inits::maybe_minits;
 use cx_ahead::{Type, sees};
 use cx_base::List;
 use cx_grammar::{Cursor, ParseStop};
-use cx_parser_names::{ident, modifiers, or_none};
+use cx_parser_names::{destructor_name, ident, modifiers, or_none};
 use cx_parser_stmts::block;
 use cx_parser_vars::{StartsTail, attrs, noex, tail};
 use cx_syntax::{Class, Lexeme};
-use cx_tree::{Constructor, ConstructorBody, Destructor, Entity, Ident, MemberKind, Param};
+use cx_tree::{
+    Constructor, ConstructorBody, Destructor, DestructorName, Entity, Ident, MemberKind, Param,
+};
 use std::alloc::Global;
 
 /// Parameters, the levels of `noexcept`, and the body.
@@ -91,11 +93,10 @@ fn dtor_end(
     alloc: Global,
     tokens: &mut Cursor<'_, Lexeme>,
     left: usize,
-) -> Result<(Ident, NoexEnd), ParseStop>
+) -> Result<(DestructorName, NoexEnd), ParseStop>
     ensures { Reads (spec.dtor_end left tokens.old) result tokens.new }
 {
-    tokens.expect(&Class::Tilde)?;
-    let name = ident(alloc, tokens, &Type)?;
+    let name = destructor_name(alloc, tokens)?;
     tokens.expect(&Class::OpenParen)?;
     tokens.expect(&Class::CloseParen)?;
     let end = noex_end(alloc, tokens, left)?;

@@ -10,7 +10,7 @@ use cx_ahead::{AnyName, AnyString, Id, OverloadedIn, StartsLast, Type};
 use cx_base::{List, Text};
 use cx_grammar::{Cursor, ParseStop, Test};
 use cx_syntax::{Class, Lexeme, span_of};
-use cx_tree::{FunctionName, Ident, Last, Overloaded, TypeName};
+use cx_tree::{DestructorName, FunctionName, Ident, Last, OperatorName, Overloaded, TypeName};
 use std::alloc::Global;
 
 /// A name of a set.
@@ -88,6 +88,35 @@ fn op(tokens: &mut Cursor<'_, Lexeme>) -> Result<Overloaded, ParseStop>
     tokens.take(&OverloadedIn)
 }
 
+fn operator_name(tokens: &mut Cursor<'_, Lexeme>) -> Result<OperatorName, ParseStop>
+    ensures { Reads (spec.operator_name tokens.old) result tokens.new }
+{
+    let from = tokens.rest();
+    tokens.expect(&Class::Operator)?;
+    let operator = op(tokens)?;
+    Ok(OperatorName {
+        operator,
+        span: span_of(tokens.since(from)),
+    })
+}
+
+/// A destructor's name ([class.dtor]).
+#[inline(never)]
+pub fn destructor_name(
+    alloc: Global,
+    tokens: &mut Cursor<'_, Lexeme>,
+) -> Result<DestructorName, ParseStop>
+    ensures { Reads (spec.destructor_name tokens.old) result tokens.new }
+{
+    let from = tokens.rest();
+    tokens.expect(&Class::Tilde)?;
+    let class = ident(alloc, tokens, &Type)?;
+    Ok(DestructorName {
+        class,
+        span: span_of(tokens.since(from)),
+    })
+}
+
 #[tactic(auto, unfolding(cx_syntax::specs::Readers::last_part))]
 fn last_part(alloc: Global, tokens: &mut Cursor<'_, Lexeme>) -> Result<Last, ParseStop>
     ensures { Reads (spec.last_part tokens.old) result tokens.new }
@@ -95,8 +124,7 @@ fn last_part(alloc: Global, tokens: &mut Cursor<'_, Lexeme>) -> Result<Last, Par
     if tokens.sees(&Id) {
         return Ok(Last::Ident(ident(alloc, tokens, &Id)?));
     }
-    tokens.expect(&Class::Operator)?;
-    Ok(Last::Operator(op(tokens)?))
+    Ok(Last::Operator(operator_name(tokens)?))
 }
 
 fn scope(alloc: Global, tokens: &mut Cursor<'_, Lexeme>) -> Result<Ident, ParseStop>
@@ -119,7 +147,8 @@ pub fn scopes(alloc: Global, tokens: &mut Cursor<'_, Lexeme>) -> Result<List<Ide
     Ok(found)
 }
 
-fn fname_parts(
+/// What a function's or variable's name is qualified by, and its last part.
+pub fn fname_parts(
     alloc: Global,
     tokens: &mut Cursor<'_, Lexeme>,
 ) -> Result<(List<Ident>, Last), ParseStop>
@@ -143,6 +172,7 @@ pub fn fname(alloc: Global, tokens: &mut Cursor<'_, Lexeme>) -> Result<FunctionN
     let from = tokens.rest();
     let (scopes, last) = fname_parts(alloc, tokens)?;
     Ok(FunctionName {
+        global: false,
         scopes,
         last,
         span: span_of(tokens.since(from)),

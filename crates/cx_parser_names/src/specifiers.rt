@@ -69,7 +69,7 @@ fn words_type(alloc: Global, tokens: &mut Cursor<'_, Lexeme>) -> Result<SpecsTyp
 {
     let word = tokens.take(&TypeWordIn)?;
     let others = words_behind(alloc, tokens)?;
-    Ok(SpecsType::Words(word, others))
+    Ok(SpecsType::Words(word.word, others))
 }
 
 #[tactic(auto, unfolding(cx_syntax::specs::Readers::name_type))]

@@ -88,3 +88,14 @@ pub fn condition(
     tokens.expect(&Class::CloseParen)?;
     Ok(condition)
 }
+
+/// The expression in the box, if there is one.
+#[inline(never)]
+pub fn unboxed(boxed: Option<Boxed<Expr>>) -> Option<Expr>
+    ensures { result ≡ boxed }
+{
+    match boxed {
+        Some(expr) => Some(expr.into_inner()),
+        None => None,
+    }
+}

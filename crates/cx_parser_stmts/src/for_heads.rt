@@ -6,7 +6,7 @@ ghost use Rattle.cx_parser_stmts.specs.Parts as parts;
 ghost use Rattle.cx_syntax_stmts.specs.Readers as spec;
 
 use crate::ahead::call_at;
-use crate::exprs::{expr_below, maybe_expr};
+use crate::exprs::{expr_below, maybe_expr, unboxed};
 use cx_ahead::{Id, StartsAssign, type_ahead};
 use cx_base::{Memory, Rule};
 use cx_grammar::{Cursor, ParseStop};
@@ -32,10 +32,11 @@ fn declarator(alloc: Global, tokens: &mut Cursor<'_, Lexeme>) -> Result<(Ptrs, I
 fn range_name(
     alloc: Global,
     tokens: &mut Cursor<'_, Lexeme>,
-) -> Result<(Specs, (Ptrs, Ident)), ParseStop>
+) -> Result<(Boxed<Specs>, (Ptrs, Ident)), ParseStop>
     ensures { Reads (spec.range_name tokens.old) result tokens.new }
 {
     let specs = specs_before(alloc, tokens, &TypeNext)?;
+    let specs = Boxed::new(alloc, specs)?;
     let declarator = declarator(alloc, tokens)?;
     Ok((specs, declarator))
 }
@@ -74,7 +75,7 @@ fn for_range(
     alloc: Global,
     tokens: &mut Cursor<'_, Lexeme>,
     left: usize,
-) -> Result<((Specs, (Ptrs, Ident)), Boxed<Expr>), ParseStop>
+) -> Result<((Boxed<Specs>, (Ptrs, Ident)), Boxed<Expr>), ParseStop>
     ensures { Reads (spec.for_range left tokens.old) result tokens.new }
 {
     let name = range_name(alloc, tokens)?;
@@ -92,22 +93,11 @@ fn range_head(
     ensures { Reads (parts.range_head left tokens.old) result tokens.new }
 {
     let ((specs, (ptrs, name)), range) = for_range(alloc, tokens, left)?;
-    let head = ForHead::Range(specs, ptrs, name, range.into_inner());
+    let head = ForHead::Range(specs, ptrs, name, range);
     Ok(Boxed::new(alloc, head)?)
 }
 
 // ---- a `for` in steps
-
-// The expression in the box, if there is one.
-#[inline(never)]
-fn unboxed(boxed: Option<Boxed<Expr>>) -> Option<Expr>
-    ensures { result ≡ boxed }
-{
-    match boxed {
-        Some(expr) => Some(expr.into_inner()),
-        None => None,
-    }
-}
 
 // An expression, if one begins there, that does not begin with a type and `(` ([dcl.ambig.res]).
 #[inline(never)]
@@ -133,15 +123,16 @@ fn for_start(
     alloc: Global,
     tokens: &mut Cursor<'_, Lexeme>,
     left: usize,
-) -> Result<ForStart, ParseStop>
+) -> Result<Boxed<ForStart>, ParseStop>
     ensures { Reads (spec.for_start left tokens.old) result tokens.new }
 {
     if type_ahead(tokens.rest()) {
-        Ok(ForStart::Local(bare_local(alloc, tokens, left)?))
+        let local = bare_local(alloc, tokens, left)?;
+        Ok(Boxed::new(alloc, ForStart::Local(local))?)
     } else {
         let first = maybe_plain(alloc, tokens, left)?;
         tokens.expect(&Class::Semicolon)?;
-        Ok(ForStart::Expr(unboxed(first)))
+        Ok(Boxed::new(alloc, ForStart::Expr(unboxed(first)))?)
     }
 }
 
@@ -171,7 +162,7 @@ fn steps_head(
 {
     let start = for_start(alloc, tokens, left)?;
     let (condition, change) = steps_end(alloc, tokens, left)?;
-    let head = ForHead::Steps(start, unboxed(condition), unboxed(change));
+    let head = ForHead::Steps(start, condition, change);
     Ok(Boxed::new(alloc, head)?)
 }
 

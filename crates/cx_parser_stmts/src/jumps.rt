@@ -13,6 +13,7 @@ use cx_grammar::{Cursor, ParseStop};
 use cx_parser::{braces, expr};
 use cx_syntax::{Class, Lexeme};
 use cx_tree::{Returned, StmtKind};
+use sqlite_items::Boxed;
 use std::alloc::Global;
 
 // An expression that does not begin with a type and `(` ([stmt.ambig]).
@@ -39,16 +40,18 @@ fn maybe_returned(
     alloc: Global,
     tokens: &mut Cursor<'_, Lexeme>,
     left: usize,
-) -> Result<Option<Returned>, ParseStop>
+) -> Result<Option<Boxed<Returned>>, ParseStop>
     ensures { Reads (parts.maybe_returned left tokens.old) result tokens.new }
 {
     if !tokens.sees(&StartsClause) {
         Ok(None)
     } else if tokens.sees(&Class::OpenBrace) {
-        Ok(Some(Returned::Braces(braces(alloc, tokens, left)?)))
+        let braces = braces(alloc, tokens, left)?;
+        Ok(Some(Boxed::new(alloc, Returned::List(braces))?))
     } else {
         let value = expr(alloc, tokens, left)?;
-        Ok(Some(Returned::Expr(value.into_inner())))
+        let value = value.into_inner();
+        Ok(Some(Boxed::new(alloc, Returned::Value(value))?))
     }
 }
 
@@ -64,7 +67,10 @@ fn return_stmt(
     tokens.expect(&Class::Return)?;
     let value = maybe_returned(alloc, tokens, left)?;
     tokens.expect(&Class::Semicolon)?;
-    Ok(StmtKind::Return(value))
+    Ok(match value {
+        Some(value) => StmtKind::Return(Some(value.into_inner())),
+        None => StmtKind::Return(None),
+    })
 }
 
 /// A jump or an expression, with its `;`, with so many levels left ([stmt.jump], [stmt.expr]).

@@ -7,7 +7,7 @@ ghost use Rattle.cx_syntax_stmts.specs.Readers as spec;
 ghost use Rattle.cx_syntax_stmts.specs.Readers.{deeper};
 ghost use Rattle.cx_syntax_stmts.specs.Values as values;
 
-use crate::exprs::{condition, place};
+use crate::exprs::{condition, place, unboxed};
 use crate::for_heads::for_head;
 use crate::statements::{Nested, Statements};
 use cx_base::Span;
@@ -52,9 +52,20 @@ fn for_of(
     ensures { IfOk result (λ k. k ≡ values.for_by at head body) }
 {
     let kind = match head.into_inner() {
-        ForHead::Steps(start, test, step) => StmtKind::For(at, start, test, step, body),
+        ForHead::Steps(start, test, step) => StmtKind::For(
+            at,
+            start.into_inner(),
+            unboxed(test),
+            unboxed(step),
+            body,
+        ),
         ForHead::Range(specs, ptrs, name, range) => StmtKind::ForRange(
-            at, specs, ptrs, name, range, body,
+            at,
+            specs.into_inner(),
+            ptrs,
+            name,
+            range.into_inner(),
+            body,
         ),
     };
     Boxed::new(alloc, kind)

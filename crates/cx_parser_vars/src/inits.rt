@@ -42,7 +42,7 @@ fn equals_value(
     ensures { Reads (spec.equals_value left tokens.old) result tokens.new }
 {
     if tokens.sees(&Class::OpenBrace) {
-        Ok(InitKind::EqualsBraces(braces(alloc, tokens, left)?))
+        Ok(InitKind::EqualsList(braces(alloc, tokens, left)?))
     } else {
         Ok(InitKind::Equals(assign(alloc, tokens, left)?.into_inner()))
     }
@@ -103,12 +103,12 @@ fn init_kind(
     ensures { Reads (spec.init_kind left tokens.old) result tokens.new }
 {
     if tokens.sees(&Class::OpenParen) {
-        Ok(InitKind::Args(paren_init(alloc, tokens, left)?))
+        Ok(InitKind::Direct(paren_init(alloc, tokens, left)?))
     } else if tokens.sees(&Class::Equal) {
         tokens.expect(&Class::Equal)?;
         equals_value(alloc, tokens, left)
     } else {
-        Ok(InitKind::Braces(braces(alloc, tokens, left)?))
+        Ok(InitKind::DirectList(braces(alloc, tokens, left)?))
     }
 }
 

@@ -16,7 +16,7 @@ use Rattle.cx_syntax.specs.declared.lexeme.Lexeme.{Lexeme}
 use Rattle.cx_syntax.specs.Classes.{is}
 use Rattle.cx_syntax.specs.Ahead.{names_end, qtype_end}
 use Rattle.cx_syntax.specs.Sets.{is_type, is_id, is_name, starts_last}
-use Rattle.cx_syntax.specs.Values.{span_of, ident_of, function_name, type_name, name_of}
+use Rattle.cx_syntax.specs.Values.{span_of, ident_of, type_name, name_of}
 use Rattle.cx_syntax.specs.Readers as r
 use Rattle.cx_syntax.proofs.Basics.{at, apart, sub, both_true, false_of}
 use Rattle.cx_syntax.proofs.Beside.{reach, reach_within}
@@ -55,7 +55,7 @@ bare_end b rest = if b then Some rest else None
 -- an ID is read whole
 pub id_read : (t : Lexeme) (rest : List Lexeme) → is_id t.class ≡ true → reach (r.last_part (t ∷ rest)) ≡ length rest
 unfolding r.last_part
-id_read t rest e = ap (λ b. reach (if b then made last.Ident (token_by (if b then Some (ident_of t) else None) t rest) else (last.Operator <$> (is k.Operator ⊳ r.op)) (t ∷ rest))) e
+id_read t rest e = ap (λ b. reach (if b then made last.Ident (token_by (if b then Some (ident_of t) else None) t rest) else (last.Operator <$> r.operator_name) (t ∷ rest))) e
 
 pub told_last : (t : Lexeme) (rest : List Lexeme) (b c : Bool) → is_type t.class ≡ b → is_name t.class ≡ c
     → Told (bare_end (is_type t.class) rest) (type_end (is_type t.class) (is_name t.class) t rest) (name_end (starts_last t.class) (is_name t.class) t rest)
@@ -160,7 +160,7 @@ abbrev pub qtype_made : List Lexeme → Option (Unit {0}) → Outcome Lexeme (Li
 qtype_made ts c o = made type_name (made (λ b. (c, b)) o >>= (λ v rest. done (v, span_of (taken ts rest)) rest))
 
 abbrev pub name_made : List Lexeme → Option (Unit {0}) → Outcome Lexeme (List Ident × Last) → Outcome Lexeme ExprKind
-name_made ts c o = made name_of (made (λ b. (c, b)) (made function_name (o >>= (λ v rest. done (v, span_of (taken ts rest)) rest))))
+name_made ts c o = made name_of (made (λ b. (c, b)) o >>= (λ v rest. done (v, span_of (taken ts rest)) rest))
 
 abbrev pub colons_by : Bool → List Lexeme → Outcome Lexeme (Option (Unit {0}))
 colons_by b ts = if b then made Some (r.colon ts) else done None ts
@@ -169,8 +169,8 @@ pub reach_name : (ts : List Lexeme) (c : Option (Unit {0})) (o : Outcome Lexeme 
 reach_name ts c (done v rest) = refl
 reach_name ts c (stop rule left) = refl
 
-pub told_both : (ts more : List Lexeme) (c : Option (Unit {0})) → Told (names_end more) (qtype_made ts c (r.type_names more)) (name_made more c (r.fname_parts more))
-told_both ts more c = told_lift (qtype_made ts c) (name_made more c) (λ v rest. (_, refl)) (λ left. refl) (λ left. refl) (reach_name more c) (told_names more)
+pub told_both : (ts more : List Lexeme) (c : Option (Unit {0})) → Told (names_end more) (qtype_made ts c (r.type_names more)) (name_made ts c (r.fname_parts more))
+told_both ts more c = told_lift (qtype_made ts c) (name_made ts c) (λ v rest. (_, refl)) (λ left. refl) (λ left. refl) (reach_name ts c) (told_names more)
 
 -- without `::`
 pub qtype_plain : (ts : List Lexeme) → sees (is k.ColonColon) ts ≡ false → r.qtype ts ≡ qtype_made ts None (r.type_names ts)
@@ -178,8 +178,8 @@ unfolding r.qtype
 qtype_plain ts e = ap (λ b. made type_name ((colons_by b ts >>= (λ c rest. made (λ v. (c, v)) (r.type_names rest))) >>= (λ v rest. done (v, span_of (taken ts rest)) rest))) e
 
 pub name_plain : (d : r.Readers) (ts : List Lexeme) → sees (is k.ColonColon) ts ≡ false → r.id_expression d ts ≡ name_made ts None (r.fname_parts ts)
-unfolding r.id_expression r.fname
-name_plain d ts e = ap (λ b. made name_of (colons_by b ts >>= (λ c rest. made (λ v. (c, v)) (r.fname rest)))) e
+unfolding r.id_expression
+name_plain d ts e = ap (λ b. made name_of ((colons_by b ts >>= (λ c rest. made (λ v. (c, v)) (r.fname_parts rest))) >>= (λ v rest. done (v, span_of (taken ts rest)) rest))) e
 
 -- with it
 pub qtype_global : (t : Lexeme) (rest : List Lexeme) → is k.ColonColon t ≡ true → r.qtype (t ∷ rest) ≡ qtype_made (t ∷ rest) (Some tt) (r.type_names rest)
@@ -187,10 +187,10 @@ unfolding r.qtype
 qtype_global t rest e = ap (λ b. made type_name ((colons_by b (t ∷ rest) >>= (λ c more. made (λ v. (c, v)) (r.type_names more))) >>= (λ v more. done (v, span_of (taken (t ∷ rest) more)) more))) e
     ∙ ap (λ b. made type_name ((made Some (token_by (if b then Some tt else None) t rest) >>= (λ c more. made (λ v. (c, v)) (r.type_names more))) >>= (λ v more. done (v, span_of (taken (t ∷ rest) more)) more))) e
 
-pub name_global : (d : r.Readers) (t : Lexeme) (rest : List Lexeme) → is k.ColonColon t ≡ true → r.id_expression d (t ∷ rest) ≡ name_made rest (Some tt) (r.fname_parts rest)
-unfolding r.id_expression r.fname
-name_global d t rest e = ap (λ b. made name_of (colons_by b (t ∷ rest) >>= (λ c more. made (λ v. (c, v)) (r.fname more)))) e
-    ∙ ap (λ b. made name_of (made Some (token_by (if b then Some tt else None) t rest) >>= (λ c more. made (λ v. (c, v)) (r.fname more)))) e
+pub name_global : (d : r.Readers) (t : Lexeme) (rest : List Lexeme) → is k.ColonColon t ≡ true → r.id_expression d (t ∷ rest) ≡ name_made (t ∷ rest) (Some tt) (r.fname_parts rest)
+unfolding r.id_expression
+name_global d t rest e = ap (λ b. made name_of ((colons_by b (t ∷ rest) >>= (λ c more. made (λ v. (c, v)) (r.fname_parts more))) >>= (λ v more. done (v, span_of (taken (t ∷ rest) more)) more))) e
+    ∙ ap (λ b. made name_of ((made Some (token_by (if b then Some tt else None) t rest) >>= (λ c more. made (λ v. (c, v)) (r.fname_parts more))) >>= (λ v more. done (v, span_of (taken (t ∷ rest) more)) more))) e
 
 pub told_at : (d : r.Readers) (ts : List Lexeme) (b : Bool) → sees (is k.ColonColon) ts ≡ b → Told (qtype_end ts) (r.qtype ts) (r.id_expression d ts)
 told_at d ts false e = told_same (ap (λ b. if b then names_end (tail_of ts) else names_end ts) e) (qtype_plain ts e) (name_plain d ts e) (told_both ts ts None)

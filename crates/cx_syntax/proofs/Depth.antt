@@ -3,7 +3,7 @@ use Rattle.std.proofs.Common.{◌≡◌, ℕ, zero, suc, Bool, true, false, ◌|
 use Rattle.cx_grammar.specs.Language.{one, the, maybe, ◌<$>◌, ◌∥◌, ◌⊳◌, ◌⊲◌}
 use Rattle.cx_grammar.specs.Exact.{Family}
 use Rattle.cx_grammar.proofs.Lists.{no_front}
-use Rattle.cx_grammar.proofs.Heads.{Heads, heads_as, heads_both, heads_before, heads_or, heads_sub, heads_measured, opens_sub}
+use Rattle.cx_grammar.proofs.Heads.{heads_behind, Heads, heads_as, heads_both, heads_before, heads_or, heads_sub, heads_measured, opens_sub}
 use Rattle.cx_grammar.proofs.Levels.{Below, Room, heads_below}
 use Rattle.cx_tree.specs.declared.exprs.ExprKind.TheVariants as e
 use Rattle.cx_tree.specs.declared.exprs.MoreKind.TheVariants as m
@@ -20,7 +20,7 @@ use Rattle.cx_syntax.specs.Grammar as g
 use Rattle.cx_syntax.specs.Readers as r
 use Rattle.cx_syntax.specs.Readers.{just}
 use Rattle.cx_syntax.proofs.Basics.{at, sub, heads_pick, heads_after}
-use Rattle.cx_syntax.proofs.Names.{heads_fname, heads_qtype, opens_colons, goes_name}
+use Rattle.cx_syntax.proofs.Names.{heads_fname, heads_fname_parts, heads_destructor_name, heads_qtype, opens_colons, goes_name}
 use Rattle.cx_syntax.proofs.Specifiers.{heads_specs}
 
 -- ---- a part with what may follow its value
@@ -74,7 +74,7 @@ heads_word_made = heads_as made_of_word (heads_both _ (heads_pick is_word word_o
 
 pub heads_id_expression : Heads (λ n. g.id_expression (g.deeper n)) (at starts_id_expression)
 unfolding same_class
-heads_id_expression = heads_as name_of (heads_after (opens_sub (sub goes_name starts_id_expression refl) opens_colons) (λ n. inl refl) (heads_sub (sub starts_fname starts_id_expression refl) heads_fname))
+heads_id_expression = heads_as name_of (heads_measured span_of (heads_after (opens_sub (sub goes_name starts_id_expression refl) opens_colons) (λ n. inl refl) (heads_sub (sub starts_fname starts_id_expression refl) heads_fname_parts)))
 
 pub heads_type_made : Heads (λ n. g.type_made (g.deeper n)) (at starts_name)
 heads_type_made = heads_as made_of_type (heads_both _ heads_qtype)
@@ -128,8 +128,8 @@ heads_call = heads_as m.Call heads_paren_args
 pub heads_step : Heads (λ n. one (pick is_step step_of)) (at is_step)
 heads_step = heads_pick is_step step_of
 
-pub heads_destructor : Heads (λ n. part.Destructor <$> (is k.Tilde ⊳ g.type_only ⊲ is k.OpenParen ⊲ is k.CloseParen)) (at (just k.Tilde))
-heads_destructor = heads_as part.Destructor (heads_before {G = λ n. g.type_only ⊲ is k.OpenParen ⊲ is k.CloseParen} (is k.Tilde))
+pub heads_destructor : Heads (λ n. part.Destructor <$> (g.destructor_name ⊲ is k.OpenParen ⊲ is k.CloseParen)) (at (just k.Tilde))
+heads_destructor = heads_as part.Destructor (heads_behind {G = λ n. g.destructor_name ⊲ is k.OpenParen} (is k.CloseParen) (heads_behind {G = λ n. g.destructor_name} (is k.OpenParen) heads_destructor_name))
 
 pub heads_member_name : Heads (λ n. part.Name <$> g.fname) (at starts_fname)
 heads_member_name = heads_as part.Name heads_fname
@@ -310,7 +310,7 @@ heads_args = heads_as _ (heads_both _ heads_deep_assign)
 
 pub heads_clause : Heads (λ n. g.clause (g.deeper n)) (at starts_clause)
 unfolding same_class
-heads_clause = heads_sub (sub (λ c. starts_assign c || just k.OpenBrace c) starts_clause refl) (heads_or (heads_as clauses.Expr heads_deep_assign) (heads_as clauses.Braces heads_deep_braces))
+heads_clause = heads_sub (sub (λ c. starts_assign c || just k.OpenBrace c) starts_clause refl) (heads_or (heads_as clauses.Value heads_deep_assign) (heads_as clauses.Nested heads_deep_braces))
 
 pub room : Room (λ n. (r.deeper n).room)
 unfolding r.deeper

@@ -92,10 +92,17 @@ pub endless_names : {B : Type 0} {h : Language Lexeme B} → Endless h → Endle
 unfolding same_class
 endless_names a = plain_both (plain_many (behind k.ColonColon refl (endless_pick is_name ident_of refl))) a
 
-pub endless_fname : Endless g.fname
+pub endless_fname_parts : Endless (names (pick is_name ident_of) (is k.ColonColon) g.last_part)
 unfolding same_class
-endless_fname = plain_as _ (plain_measured _ (endless_names (plain_or (plain_as _ (endless_pick is_id ident_of refl)) (plain_as _ (before k.Operator refl
+endless_fname_parts = endless_names (plain_or (plain_as _ (endless_pick is_id ident_of refl)) (plain_as _ (plain_as _ (plain_measured _ (before k.Operator refl
     (plain_or (plain_as _ (before k.OpenParen refl (endless_the k.CloseParen refl))) (plain_or (plain_as _ (before k.OpenBracket refl (endless_the k.CloseBracket refl))) (endless_pick is_single_operator overloaded_of refl))))))))
+
+pub endless_fname : Endless g.fname
+endless_fname = plain_as _ (plain_measured _ endless_fname_parts)
+
+pub endless_destructor_name : Endless g.destructor_name
+unfolding same_class
+endless_destructor_name = plain_as _ (plain_measured _ (before k.Tilde refl (endless_pick is_type ident_of refl)))
 
 pub endless_qtype : Endless g.qtype
 unfolding same_class
@@ -150,12 +157,12 @@ module _ (d : g.Deeper) (e : EndlessBelow d) where
   head = let string = endless_pick is_string text_of refl in
       plain_as _ (plain_measured _ (plain_or (endless_pick is_literal literal_of refl) (plain_or (plain_as _ (plain_as _ (plain_both string (plain_many string)))) (plain_or (plain_as _ (in_parens e.expr))
       (plain_or (plain_as _ (plain_both (endless_pick is_cast_word cast_word_of refl) (plain_both (before k.Less refl (behind k.Greater refl endless_typeid)) (in_parens e.expr))))
-      (plain_or (plain_as _ (plain_both (endless_pick is_word word_of refl) given)) (plain_or (plain_as _ (plain_both (plain_maybe (endless_the k.ColonColon refl)) endless_fname)) (plain_as _ (plain_both endless_qtype given)))))))))
+      (plain_or (plain_as _ (plain_both (endless_pick is_word word_of refl) given)) (plain_or (plain_as _ (plain_measured _ (plain_both (plain_maybe (endless_the k.ColonColon refl)) endless_fname_parts))) (plain_as _ (plain_both endless_qtype given)))))))))
 
   pub more : Endless (g.more d)
   unfolding same_class
   more = plain_as _ (plain_measured _ (plain_or (plain_as _ (before k.OpenBracket refl (behind k.CloseBracket refl e.expr))) (plain_or (plain_as _ paren_args) (plain_or (endless_pick is_step step_of refl)
-      (plain_as _ (plain_both (endless_pick is_reach reach_of refl) (plain_or (plain_as _ endless_fname) (plain_as _ (before k.Tilde refl (behind k.CloseParen refl (behind k.OpenParen refl (endless_pick is_type ident_of refl))))))))))))
+      (plain_as _ (plain_both (endless_pick is_reach reach_of refl) (plain_or (plain_as _ endless_fname) (plain_as _ (behind k.CloseParen refl (behind k.OpenParen refl endless_destructor_name))))))))))
 
   pub postfix : Endless (g.postfix d)
   postfix = plain_as _ (plain_measured _ (plain_both head (plain_many more)))

@@ -102,10 +102,10 @@ module _ (left : ℕ) (d : Sound left) where
 
   pub exactly_clause : (r.deeper left).room ≡ true → Exactly (λ n. g.clause (g.deeper n)) (by (at goes_assign)) left (r.clause (r.deeper left))
   unfolding r.clause same_class
-  exactly_clause there = exactly_same (swapped (λ n. clauses.Braces <$> (g.deeper n).braces) (λ n. clauses.Expr <$> (g.deeper n).assign))
-      (exactly_choice (just k.OpenBrace) starts_assign refl (heads_as clauses.Braces heads_deep_braces) (heads_as clauses.Expr heads_deep_assign)
-      (present_deep (deep left there) (λ n. refl) (exactly_as clauses.Braces (exactly_widened (never_sub (at goes_assign)) (d.braces there))))
-      (exactly_deep (deep left there) (λ n. refl) (exactly_as clauses.Expr (d.assign there))))
+  exactly_clause there = exactly_same (swapped (λ n. clauses.Nested <$> (g.deeper n).braces) (λ n. clauses.Value <$> (g.deeper n).assign))
+      (exactly_choice (just k.OpenBrace) starts_assign refl (heads_as clauses.Nested heads_deep_braces) (heads_as clauses.Value heads_deep_assign)
+      (present_deep (deep left there) (λ n. refl) (exactly_as clauses.Nested (exactly_widened (never_sub (at goes_assign)) (d.braces there))))
+      (exactly_deep (deep left there) (λ n. refl) (exactly_as clauses.Value (d.assign there))))
 
   pub clause_stays : (r.deeper left).room ≡ true → (n : ℕ) → left ≤ n → (g.clause (g.deeper n)).stays ≡ true
   clause_stays there zero p = let l = deep left there in absurd (omega arith)

@@ -2,7 +2,7 @@
 use Rattle.std.proofs.Common.{◌≡◌, ℕ, zero, suc, ◌≤◌, Bool, true, false, not, ◌&&◌, if◌then◌else◌, List, [], ◌∷◌, ◌++◌, length, Option, Some, None, refl, sym, ◌∙◌, ap, arith, length-append}
 use Rattle.cx_base.specs.declared.rule.Rule.TheVariants.{Syntax}
 use Rattle.cx_grammar.specs.Exact.{Outcome, done, stop}
-use Rattle.cx_grammar.specs.Reading.{made, refuse, sees, token_by, many_when, ◌>>=◌, ◌<$>◌, ◌⊳◌}
+use Rattle.cx_grammar.specs.Reading.{made, taken, refuse, sees, token_by, many_when, ◌>>=◌, ◌<$>◌, ◌⊳◌}
 use Rattle.cx_grammar.specs.Reads.{tail_of}
 use Rattle.cx_grammar.proofs.Heads.{Sub}
 use Rattle.cx_grammar.proofs.Names.{on_name}
@@ -20,7 +20,7 @@ use Rattle.cx_syntax.specs.declared.lexeme.Lexeme.{Lexeme}
 use Rattle.cx_syntax.specs.Classes.{is, same_class}
 use Rattle.cx_syntax.specs.Ahead.{names_end, qtype_end, name_fault, fault_at, type_fault}
 use Rattle.cx_syntax.specs.Sets.{is_type, is_id, is_name, is_word, is_operator_word, starts_name, starts_last, starts_given, starts_assign, follows_name}
-use Rattle.cx_syntax.specs.Values.{ident_of, Operand}
+use Rattle.cx_syntax.specs.Values.{ident_of, operator_named, span_of, Operand}
 use Rattle.cx_syntax.specs.Readers as r
 use Rattle.cx_syntax.proofs.Basics.{at, apart, sub, both_true, false_of}
 use Rattle.cx_syntax.proofs.Names.{exactly_op}
@@ -42,9 +42,9 @@ pub data Faulted (goes : Class → Bool) (ts : List Lexeme) (ahead : Option (Lis
 -- ---- the last name
 
 -- an operator's token is passed
-pub reach_operator : (o : Outcome Lexeme Overloaded) → reach (made last.Operator (made (λ (pair : Unit {0} × Overloaded). pair.1) (made (λ v. (tt, v)) o))) ≡ reach o
-reach_operator (done v rest) = refl
-reach_operator (stop rule left) = refl
+pub reach_operator : (ts : List Lexeme) (o : Outcome Lexeme Overloaded) → reach (made last.Operator (made operator_named (made (λ (pair : Unit {0} × Overloaded). pair.1) (made (λ v. (tt, v)) o) >>= (λ v more. done (v, span_of (taken ts more)) more)))) ≡ reach o
+reach_operator ts (done v rest) = refl
+reach_operator ts (stop rule left) = refl
 
 pub operator_read : (t : Lexeme) (rest : List Lexeme) → at is_operator_word t ≡ true → reach (r.last_part (t ∷ rest)) ≤ length rest
 unfolding r.last_part same_class
@@ -52,9 +52,9 @@ operator_read t rest e =
     let not_id = false_of (is_id t.class) (λ i. apart is_operator_word is_id refl t e i) in
     let word = sub is_operator_word (λ c. r.just k.Operator c) refl t e in
     let whole : reach (r.last_part (t ∷ rest)) ≡ reach (r.op rest) =
-    ap (λ b. reach (if b then made last.Ident (r.id (t ∷ rest)) else (last.Operator <$> (is k.Operator ⊳ r.op)) (t ∷ rest))) not_id
-    ∙ (ap (λ b. reach (made last.Operator (made (λ (pair : Unit {0} × Overloaded). pair.1) (token_by (if b then Some tt else None) t rest >>= (λ u more. made (λ v. (u, v)) (r.op more)))))) word
-    ∙ reach_operator (r.op rest)) in
+    ap (λ b. reach (if b then made last.Ident (r.id (t ∷ rest)) else (last.Operator <$> r.operator_name) (t ∷ rest))) not_id
+    ∙ (ap (λ b. reach (made last.Operator (made operator_named (made (λ (pair : Unit {0} × Overloaded). pair.1) (token_by (if b then Some tt else None) t rest >>= (λ u more. made (λ v. (u, v)) (r.op more))) >>= (λ v more. done (v, span_of (taken (t ∷ rest) more)) more))))) word
+    ∙ reach_operator (t ∷ rest) (r.op rest)) in
     let w = reach_within (λ n. g.op) (by never) 0 rest (r.op rest) ((exactly_op 0).at rest) in omega arith
 
 -- what is neither a name nor an operator is the fault
@@ -63,8 +63,8 @@ unfolding r.last_part same_class
 other_read t rest e f =
     let not_id = false_of (is_id t.class) (λ i. let n = sub is_id is_name refl t i in let both : true ≡ false = sym n ∙ e in cc) in
     let not_word = false_of (r.just k.Operator t.class) (λ i. let n = sub (λ c. r.just k.Operator c) is_operator_word refl t i in let both : true ≡ false = sym n ∙ f in cc) in
-    ap (λ b. if b then made last.Ident (r.id (t ∷ rest)) else (last.Operator <$> (is k.Operator ⊳ r.op)) (t ∷ rest)) not_id
-    ∙ ap (λ b. made last.Operator (made (λ (pair : Unit {0} × Overloaded). pair.1) (token_by (if b then Some tt else None) t rest >>= (λ u more. made (λ v. (u, v)) (r.op more))))) not_word
+    ap (λ b. if b then made last.Ident (r.id (t ∷ rest)) else (last.Operator <$> r.operator_name) (t ∷ rest)) not_id
+    ∙ ap (λ b. made last.Operator (made operator_named (made (λ (pair : Unit {0} × Overloaded). pair.1) (token_by (if b then Some tt else None) t rest >>= (λ u more. made (λ v. (u, v)) (r.op more))) >>= (λ v more. done (v, span_of (taken (t ∷ rest) more)) more)))) not_word
 
 -- ---- no name with `::` behind it comes next
 
@@ -83,7 +83,7 @@ name_end b c t rest = if c && not b then refuse rest else r.last_part (t ∷ res
 
 pub id_done : (t : Lexeme) (rest : List Lexeme) → is_id t.class ≡ true → r.last_part (t ∷ rest) ≡ done (last.Ident (ident_of t)) rest
 unfolding r.last_part
-id_done t rest e = ap (λ b. if b then made last.Ident (token_by (if b then Some (ident_of t) else None) t rest) else (last.Operator <$> (is k.Operator ⊳ r.op)) (t ∷ rest)) e
+id_done t rest e = ap (λ b. if b then made last.Ident (token_by (if b then Some (ident_of t) else None) t rest) else (last.Operator <$> r.operator_name) (t ∷ rest)) e
 
 -- what is made of the last name
 abbrev pub no_scope : {B : Type 0} → B → List Ident × B
@@ -203,11 +203,11 @@ global_fault t rest e f = ap (λ b. word_fault b (is k.ColonColon t) (t ∷ rest
 
 pub global_name : (t : Lexeme) (ts : List Lexeme) → at is_word t ≡ false → is k.ColonColon t ≡ true → Faulted is_operator_word ts (names_end ts) (r.type_names ts) (r.fname_parts ts) (fault false is_operator_word ts) → NameFault (t ∷ ts)
 global_name t ts e f (at_type rest v n a o) = behind_type rest _ (ap (λ b. if b then names_end ts else names_end (t ∷ ts)) f ∙ n) (qtype_global t ts f ∙ ap (qtype_made (t ∷ ts) (Some tt)) a) (global_fault t ts e f ∙ o)
-global_name t ts e f (at_id rest w a b o) = behind_id rest _ (qtype_global t ts f ∙ ap (qtype_made (t ∷ ts) (Some tt)) a) (name_global (r.deeper 0) t ts f ∙ ap (name_made ts (Some tt)) b) (global_fault t ts e f ∙ o)
+global_name t ts e f (at_id rest w a b o) = behind_id rest _ (qtype_global t ts f ∙ ap (qtype_made (t ∷ ts) (Some tt)) a) (name_global (r.deeper 0) t ts f ∙ ap (name_made (t ∷ ts) (Some tt)) b) (global_fault t ts e f ∙ o)
 global_name t ts e f (at_scope front rest c n a o s g) = behind_scope (t ∷ front) rest (ap (λ l. t ∷ l) c) (colon_first t f) (qtype_global t ts f ∙ ap (qtype_made (t ∷ ts) (Some tt)) a) (global_fault t ts e f ∙ o)
-    (λ i. name_global (r.deeper 0) t ts f ∙ ap (name_made ts (Some tt)) (s i)) (λ z after i j. let m = g z after i j in let l = ap reach (name_global (r.deeper 0) t ts f) ∙ reach_name ts (Some tt) (r.fname_parts ts) in omega arith)
+    (λ i. name_global (r.deeper 0) t ts f ∙ ap (name_made (t ∷ ts) (Some tt)) (s i)) (λ z after i j. let m = g z after i j in let l = ap reach (name_global (r.deeper 0) t ts f) ∙ reach_name (t ∷ ts) (Some tt) (r.fname_parts ts) in omega arith)
 global_name t ts e f (at_start n a o s g) = behind_scope (t ∷ []) ts refl (colon_first t f) (qtype_global t ts f ∙ ap (qtype_made (t ∷ ts) (Some tt)) a) (global_fault t ts e f ∙ o)
-    (λ i. name_global (r.deeper 0) t ts f ∙ ap (name_made ts (Some tt)) (s i)) (λ z after i j. let m = g z after i j in let l = ap reach (name_global (r.deeper 0) t ts f) ∙ reach_name ts (Some tt) (r.fname_parts ts) in omega arith)
+    (λ i. name_global (r.deeper 0) t ts f ∙ ap (name_made (t ∷ ts) (Some tt)) (s i)) (λ z after i j. let m = g z after i j in let l = ap reach (name_global (r.deeper 0) t ts f) ∙ reach_name (t ∷ ts) (Some tt) (r.fname_parts ts) in omega arith)
 
 pub name_fault_at : (u : List Lexeme) → sees (at is_word) u ≡ false → (b : Bool) → sees (is k.ColonColon) u ≡ b → NameFault u
 name_fault_at u e false f = plain_name u e f (faulted starts_assign u)

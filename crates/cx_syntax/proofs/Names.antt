@@ -19,7 +19,7 @@ use Rattle.cx_tree.specs.declared.operators.Overloaded.TheVariants as v
 use Rattle.cx_syntax.specs.Classes.{is, same_class}
 use Rattle.cx_syntax.specs.Sets.{is_type, is_id, is_name, is_single_operator, starts_last, starts_fname, starts_name}
 pub use Rattle.cx_syntax.specs.Goes.{goes_name}
-use Rattle.cx_syntax.specs.Values.{pick, span_of, ident_of, function_name, type_name, overloaded_of}
+use Rattle.cx_syntax.specs.Values.{pick, span_of, ident_of, operator_named, destructor_named, function_name, type_name, overloaded_of}
 use Rattle.cx_syntax.specs.Grammar as g
 use Rattle.cx_syntax.specs.Readers as r
 use Rattle.cx_syntax.specs.Readers.{just}
@@ -56,13 +56,13 @@ exactly_op left = exactly_choice (just k.OpenParen) (λ c. just k.OpenBracket c 
 -- ---- the end of an fname, and fname
 
 abbrev pub operator_part : Family Lexeme Last
-operator_part n = last.Operator <$> (is k.Operator ⊳ g.op)
+operator_part n = last.Operator <$> g.operator_name
 
 abbrev pub id_part : Family Lexeme Last
 id_part n = last.Ident <$> g.id
 
 pub heads_operator_part : Heads operator_part (at (just k.Operator))
-heads_operator_part = heads_as last.Operator (heads_before {G = λ n. g.op} (is k.Operator))
+heads_operator_part = heads_as last.Operator (heads_as operator_named (heads_measured span_of (heads_before {G = λ n. g.op} (is k.Operator))))
 
 pub heads_id_part : Heads id_part (at is_id)
 heads_id_part = heads_as last.Ident (heads_pick is_id ident_of)
@@ -75,7 +75,7 @@ pub exactly_last_part : (left : ℕ) → Exactly (λ n. g.last_part) (by never) 
 unfolding r.last_part same_class
 exactly_last_part left = exactly_choice is_id (just k.Operator) refl heads_id_part heads_operator_part
     (present_at refl (λ n. refl) (exactly_as last.Ident exactly_token))
-    (exactly_stays refl (λ n. refl) (exactly_as last.Operator (exactly_before (is k.Operator) (exactly_op left))))
+    (exactly_stays refl (λ n. refl) (exactly_as last.Operator (exactly_as operator_named (exactly_measured span_of (exactly_before (is k.Operator) (exactly_op left))))))
 
 -- a name that ends an fname is all of the end
 pub lone_spelled : (t : Lexeme) (x : List Lexeme) (w : Last) → at is_name t ≡ true → g.last_part.spells (t ∷ x) w → x ≡ []
@@ -111,9 +111,20 @@ exactly_fname left = exactly_as function_name (exactly_measured span_of (exactly
 pub heads_scopes : Opens (λ n. many (one (pick is_name ident_of) ⊲ is k.ColonColon)) (at is_name)
 heads_scopes = opens_many (heads_behind {G = λ n. one (pick is_name ident_of)} (is k.ColonColon) (heads_pick is_name ident_of))
 
+pub heads_fname_parts : Heads fname_parts (at starts_fname)
+heads_fname_parts = heads_after (opens_sub (sub is_name starts_fname refl) heads_scopes) (λ n. record { front = []; back = []; cut = refl; turns = []; whole = refl; next = none_yet refl })
+    (heads_sub (sub starts_last starts_fname refl) heads_last_part)
+
 pub heads_fname : Heads (λ n. g.fname) (at starts_fname)
-heads_fname = heads_as function_name (heads_measured span_of (heads_after (opens_sub (sub is_name starts_fname refl) heads_scopes) (λ n. record { front = []; back = []; cut = refl; turns = []; whole = refl; next = none_yet refl })
-    (heads_sub (sub starts_last starts_fname refl) heads_last_part)))
+heads_fname = heads_as function_name (heads_measured span_of heads_fname_parts)
+
+-- ---- the name of a destructor
+
+pub heads_destructor_name : Heads (λ n. g.destructor_name) (at (just k.Tilde))
+heads_destructor_name = heads_as destructor_named (heads_measured span_of (heads_before {G = λ n. g.type_only} (is k.Tilde)))
+
+pub exactly_destructor_name : (left : ℕ) → Exactly (λ n. g.destructor_name) (by never) left r.destructor_name
+exactly_destructor_name left = exactly_as destructor_named (exactly_measured span_of (exactly_before (is k.Tilde) exactly_token))
 
 -- ---- qtype
 

@@ -27,7 +27,7 @@ use Rattle.cx_syntax.specs.Grammar as g
 use Rattle.cx_syntax.specs.Readers as r
 use Rattle.cx_syntax.specs.Readers.{just}
 use Rattle.cx_syntax.proofs.Basics.{at, apart, sub, heads_pick, exactly_widened, exactly_stays, exactly_pair, exactly_choice}
-use Rattle.cx_syntax.proofs.Names.{goes_name, exactly_colons, exactly_fname, exactly_qtype, heads_fname}
+use Rattle.cx_syntax.proofs.Names.{goes_name, exactly_colons, exactly_fname, exactly_fname_parts, exactly_destructor_name, exactly_qtype, heads_fname_parts}
 use Rattle.cx_syntax.specs.Goes.{goes_typeid, goes_head, goes_postfix, goes_args}
 use Rattle.cx_syntax.proofs.Depth as h
 use Rattle.cx_syntax.proofs.Begins as b
@@ -37,7 +37,7 @@ use Rattle.cx_syntax.proofs.Ahead.{Told, is_type_name, is_none, told}
 
 pub exactly_id : (left : ℕ) (d : r.Readers) → Exactly (λ n. g.id_expression (g.deeper n)) (by (at goes_name)) left (r.id_expression d)
 unfolding r.id_expression same_class
-exactly_id left d = exactly_as name_of (exactly_both (exactly_colons left) (exactly_fname left) heads_fname (apart goes_name starts_fname refl))
+exactly_id left d = exactly_as name_of (exactly_measured span_of (exactly_both (exactly_colons left) (exactly_fname_parts left) heads_fname_parts (apart goes_name starts_fname refl)))
 
 pub stopped : {A : Type 0} {L : Family Lexeme A} {q : Lexeme → Bool} {left : ℕ} {read : Reader Lexeme A} → Exactly L (by q) left read → (ts : List Lexeme) (l : ℕ) → read ts ≡ stop Syntax l → Exact L (by q) left ts (stop Syntax l)
 stopped {A = A} {L = L} {q = q} {left = left} g ts l e = let P : Outcome Lexeme A → Type 0 = λ o. Exact L (by q) left ts o in subst P e (g.at ts)
@@ -142,10 +142,10 @@ module _ (left : ℕ) (d : Sound left) where
 
   pub exactly_member_part : Exactly (λ n. g.member_part) (by (at goes_name)) left (r.member_part (r.deeper left))
   unfolding r.member_part same_class
-  exactly_member_part = exactly_same (swapped (λ n. part.Destructor <$> (is k.Tilde ⊳ g.type_only ⊲ is k.OpenParen ⊲ is k.CloseParen)) (λ n. part.Name <$> g.fname))
+  exactly_member_part = exactly_same (swapped (λ n. part.Destructor <$> (g.destructor_name ⊲ is k.OpenParen ⊲ is k.CloseParen)) (λ n. part.Name <$> g.fname))
       (exactly_choice (just k.Tilde) starts_fname refl h.heads_destructor h.heads_member_name
-      (present_at refl (λ n. refl) (exactly_widened (never_sub (at goes_name)) (exactly_as part.Destructor (exactly_before (is k.Tilde)
-      (exactly_behind (is k.CloseParen) (exactly_behind (is k.OpenParen) exactly_token (never_apart (is k.OpenParen))) (never_apart (is k.CloseParen)))))))
+      (present_at refl (λ n. refl) (exactly_widened (never_sub (at goes_name)) (exactly_as part.Destructor
+      (exactly_behind (is k.CloseParen) (exactly_behind (is k.OpenParen) (exactly_destructor_name left) (never_apart (is k.OpenParen))) (never_apart (is k.CloseParen))))))
       (exactly_stays refl (λ n. refl) (exactly_as part.Name (exactly_fname left))))
 
   pub exactly_member : Exactly (λ n. g.member) (by (at goes_name)) left (r.member (r.deeper left))

@@ -41,10 +41,17 @@ pub scoped : {B : Type 0} {h : Language Lexeme B} → Viable h → Viable (names
 unfolding same_class
 scoped a = viable_both (viable_many (behind k.ColonColon refl (some_pick is_name ident_of k.Ident refl))) a
 
-pub viable_fname : Viable g.fname
+pub viable_fname_parts : Viable (names (pick is_name ident_of) (is k.ColonColon) g.last_part)
 unfolding same_class
-viable_fname = viable_as _ (viable_measured _ (scoped (viable_or (viable_as _ (some_pick is_id ident_of k.Ident refl)) (viable_as _ (before k.Operator refl
+viable_fname_parts = scoped (viable_or (viable_as _ (some_pick is_id ident_of k.Ident refl)) (viable_as _ (viable_as _ (viable_measured _ (before k.Operator refl
     (viable_or (viable_as _ (before k.OpenParen refl (some_the k.CloseParen refl))) (viable_or (viable_as _ (before k.OpenBracket refl (some_the k.CloseBracket refl))) (some_pick is_single_operator overloaded_of k.Not refl))))))))
+
+pub viable_fname : Viable g.fname
+viable_fname = viable_as _ (viable_measured _ viable_fname_parts)
+
+pub viable_destructor_name : Viable g.destructor_name
+unfolding same_class
+viable_destructor_name = viable_as _ (viable_measured _ (before k.Tilde refl (some_pick is_type ident_of k.TypeName refl)))
 
 pub viable_qtype : Viable g.qtype
 unfolding same_class
@@ -125,12 +132,12 @@ module _ (d : g.Deeper) (e : ViableBelow d) where
   head = let string = some_pick is_string text_of k.StrLiteral refl in
       viable_as _ (viable_measured _ (viable_or (some_pick is_literal literal_of k.True refl) (viable_or (viable_as _ (viable_as _ (viable_both string (viable_many string)))) (viable_or (viable_as _ (in_parens e.expr))
       (viable_or (viable_as _ (viable_both (some_pick is_cast_word cast_word_of k.StaticCast refl) (viable_both (before k.Less refl (behind k.Greater refl viable_typeid)) (in_parens e.expr))))
-      (viable_or (viable_as _ (viable_both (some_pick is_word word_of k.Int refl) given)) (viable_or (viable_as _ (viable_both (viable_maybe (some_the k.ColonColon refl)) viable_fname)) (viable_as _ (viable_both viable_qtype given)))))))))
+      (viable_or (viable_as _ (viable_both (some_pick is_word word_of k.Int refl) given)) (viable_or (viable_as _ (viable_measured _ (viable_both (viable_maybe (some_the k.ColonColon refl)) viable_fname_parts))) (viable_as _ (viable_both viable_qtype given)))))))))
 
   pub more : Viable (g.more d)
   unfolding same_class
   more = viable_as _ (viable_measured _ (viable_or (viable_as _ (before k.OpenBracket refl (behind k.CloseBracket refl e.expr))) (viable_or (viable_as _ paren_args) (viable_or (some_pick is_step step_of k.PlusPlus refl)
-      (viable_as _ (viable_both (some_pick is_reach reach_of k.Dot refl) (viable_or (viable_as _ viable_fname) (viable_as _ (before k.Tilde refl (behind k.CloseParen refl (behind k.OpenParen refl (some_pick is_type ident_of k.TypeName refl))))))))))))
+      (viable_as _ (viable_both (some_pick is_reach reach_of k.Dot refl) (viable_or (viable_as _ viable_fname) (viable_as _ (behind k.CloseParen refl (behind k.OpenParen refl viable_destructor_name))))))))))
 
   pub postfix : Viable (g.postfix d)
   postfix = viable_as _ (viable_measured _ (viable_both head (viable_many more)))

@@ -2,13 +2,15 @@
 use Rattle.std.specs.Prelude.{ℕ, zero, suc, Bool, List}
 use Rattle.cx_tree.specs.declared.names.Ident.{Ident}
 use Rattle.cx_tree.specs.declared.names.TypeName.{TypeName}
+use Rattle.cx_tree.specs.declared.names.DestructorName.{DestructorName}
 use Rattle.cx_tree.specs.declared.names.FunctionName.{FunctionName}
+use Rattle.cx_tree.specs.declared.names.OperatorName.{OperatorName}
 use Rattle.cx_tree.specs.declared.names.Last.{Last}
 use Rattle.cx_tree.specs.declared.names.Last.TheVariants as last
 use Rattle.cx_tree.specs.declared.operators.Overloaded.{Overloaded}
 use Rattle.cx_tree.specs.declared.operators.Overloaded.TheVariants as v
 use Rattle.cx_tree.specs.declared.specifiers.Modifier.{Modifier}
-use Rattle.cx_tree.specs.declared.specifiers.TypeWord.{TypeWord}
+use Rattle.cx_tree.specs.declared.specifiers.SimpleType.{SimpleType}
 use Rattle.cx_tree.specs.declared.specifiers.Named.{Named}
 use Rattle.cx_tree.specs.declared.specifiers.Specs.{Specs}
 use Rattle.cx_tree.specs.declared.specifiers.SpecsType.{SpecsType}
@@ -37,7 +39,7 @@ use Rattle.cx_grammar.specs.Language.{Language, one, the, ◌>>◌, ◌<$>◌, �
 use Rattle.cx_syntax.specs.Classes.{is}
 use Rattle.cx_syntax.specs.Linked.{then_by, links}
 use Rattle.cx_syntax.specs.Sets.{is_type, is_id, is_name, is_modifier, is_word, is_modifier_or_word, is_elaboration, is_single_operator, is_literal, is_string, is_cast_word, is_step, is_reach, is_prefix, is_assignment, allowed}
-use Rattle.cx_syntax.specs.Values.{pick, span_of, ident_of, text_of, literal_of, modifier_of, word_of, either_of, elaboration_of, overloaded_of, binary_of, assignment_of, prefix_of, step_of, reach_of, cast_word_of, function_name, type_name, named_of, is_specified, words_of, named_type, specs_of, star_of, ptrs_of, bound_of, typeid_of, expr_of, args_of, braces_of, name_of, made_of_word, made_of_type, named_cast, member_of, more_of, postfixed, Operand, closed, closed_kind, prefixed, sizeof_operand, deleted, new_operand, cast_of, Turn, ends_open, chained, assigned_of, chosen_of, tailed, condition, thrown, comma_of}
+use Rattle.cx_syntax.specs.Values.{pick, span_of, ident_of, text_of, literal_of, modifier_of, word_of, either_of, elaboration_of, overloaded_of, binary_of, assignment_of, prefix_of, step_of, reach_of, cast_word_of, operator_named, destructor_named, function_name, type_name, named_of, is_specified, words_of, named_type, specs_of, star_of, ptrs_of, bound_of, typeid_of, expr_of, args_of, braces_of, name_of, made_of_word, made_of_type, named_cast, member_of, more_of, postfixed, Operand, closed, closed_kind, prefixed, sizeof_operand, deleted, new_operand, cast_of, Turn, ends_open, chained, assigned_of, chosen_of, tailed, condition, thrown, comma_of}
 
 -- ---- names ([expr.prim.id], [over.oper])
 
@@ -58,9 +60,13 @@ op = ((λ _. v.Call) <$> (is k.OpenParen ⊳ the (is k.CloseParen)))
     ∥ ((λ _. v.Subscript) <$> (is k.OpenBracket ⊳ the (is k.CloseBracket)))
     ∥ one (pick is_single_operator overloaded_of)
 
+-- "operator" op, and its place
+abbrev pub operator_name : Language Lexeme OperatorName
+operator_name = operator_named <$> measured span_of (is k.Operator ⊳ op)
+
 -- ID | "operator" op
 abbrev pub last_part : Language Lexeme Last
-last_part = (last.Ident <$> id) ∥ (last.Operator <$> (is k.Operator ⊳ op))
+last_part = (last.Ident <$> id) ∥ (last.Operator <$> operator_name)
 
 -- fname = (name "::")* (ID | "operator" op)
 abbrev pub fname : Language Lexeme FunctionName
@@ -70,9 +76,13 @@ fname = function_name <$> measured span_of (names (pick is_name ident_of) (is k.
 abbrev pub qtype : Language Lexeme TypeName
 qtype = type_name <$> measured span_of (maybe (the (is k.ColonColon)) >> names (pick is_name ident_of) (is k.ColonColon) type_only)
 
+-- "~" TYPE, and its place
+abbrev pub destructor_name : Language Lexeme DestructorName
+destructor_name = destructor_named <$> measured span_of (is k.Tilde ⊳ type_only)
+
 -- fname | "~" TYPE "(" ")"
 abbrev pub member_part : Language Lexeme MemberPart
-member_part = (part.Name <$> fname) ∥ (part.Destructor <$> (is k.Tilde ⊳ type_only ⊲ is k.OpenParen ⊲ is k.CloseParen))
+member_part = (part.Name <$> fname) ∥ (part.Destructor <$> (destructor_name ⊲ is k.OpenParen ⊲ is k.CloseParen))
 
 -- ("." | "->") (fname | "~" TYPE "(" ")")
 abbrev pub member : Language Lexeme MoreKind
@@ -83,7 +93,7 @@ member = member_of <$> (one (pick is_reach reach_of) >> member_part)
 abbrev pub modifier : Language Lexeme Modifier
 modifier = one (pick is_modifier modifier_of)
 
-abbrev pub word : Language Lexeme TypeWord
+abbrev pub word : Language Lexeme SimpleType
 word = one (pick is_word word_of)
 
 -- named = (key | "enum")? qtype
@@ -142,7 +152,7 @@ module _ (d : Deeper) where
 
   -- clause = assign^ | braces^
   abbrev pub clause : Language Lexeme Clause
-  clause = (clauses.Expr <$> d.assign) ∥ (clauses.Braces <$> d.braces)
+  clause = (clauses.Value <$> d.assign) ∥ (clauses.Nested <$> d.braces)
 
   -- braces = "{" (clause ("," clause)* ","?)? "}"
   abbrev pub braces : Language Lexeme Braces
@@ -176,7 +186,7 @@ module _ (d : Deeper) where
 
   -- "::"? fname
   abbrev pub id_expression : Language Lexeme ExprKind
-  id_expression = name_of <$> (maybe (the (is k.ColonColon)) >> fname)
+  id_expression = name_of <$> measured span_of (maybe (the (is k.ColonColon)) >> names (pick is_name ident_of) (is k.ColonColon) last_part)
 
   -- qtype ("(" args? ")" | braces)
   abbrev pub type_made : Language Lexeme ExprKind

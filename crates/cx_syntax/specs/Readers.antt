@@ -2,7 +2,9 @@
 use Rattle.std.specs.Prelude.{ℕ, zero, suc, Bool, true, false, List, Option, if◌then◌else◌}
 use Rattle.cx_tree.specs.declared.names.Ident.{Ident}
 use Rattle.cx_tree.specs.declared.names.TypeName.{TypeName}
+use Rattle.cx_tree.specs.declared.names.DestructorName.{DestructorName}
 use Rattle.cx_tree.specs.declared.names.FunctionName.{FunctionName}
+use Rattle.cx_tree.specs.declared.names.OperatorName.{OperatorName}
 use Rattle.cx_tree.specs.declared.names.Last.{Last}
 use Rattle.cx_tree.specs.declared.names.Last.TheVariants as last
 use Rattle.cx_tree.specs.declared.operators.AssignOp.{AssignOp}
@@ -11,7 +13,7 @@ use Rattle.cx_tree.specs.declared.operators.Overloaded.{Overloaded}
 use Rattle.cx_tree.specs.declared.operators.Overloaded.TheVariants as v
 use Rattle.cx_tree.specs.declared.specifiers.Elaboration.{Elaboration}
 use Rattle.cx_tree.specs.declared.specifiers.Modifier.{Modifier}
-use Rattle.cx_tree.specs.declared.specifiers.TypeWord.{TypeWord}
+use Rattle.cx_tree.specs.declared.specifiers.SimpleType.{SimpleType}
 use Rattle.cx_tree.specs.declared.specifiers.WordOrModifier.{WordOrModifier}
 use Rattle.cx_tree.specs.declared.specifiers.Named.{Named}
 use Rattle.cx_tree.specs.declared.specifiers.Specs.{Specs}
@@ -47,7 +49,7 @@ use Rattle.cx_syntax.specs.Classes.{class_at, is, same_class}
 use Rattle.cx_syntax.specs.Linked.{read_then, links_of}
 use Rattle.cx_syntax.specs.Ahead.{qtype_ahead, type_ahead, type_fault, fault_at}
 use Rattle.cx_syntax.specs.Sets.{is_type, is_id, is_name, is_modifier, is_word, is_modifier_or_word, is_elaboration, is_single_operator, is_literal, is_string, is_cast_word, is_step, is_reach, is_prefix, is_assignment, allowed, starts_last, starts_typed, starts_given, starts_more, starts_unary, starts_assign, starts_clause, starts_tail}
-use Rattle.cx_syntax.specs.Values.{pick, span_of, ident_of, text_of, literal_of, modifier_of, word_of, either_of, elaboration_of, overloaded_of, binary_of, assignment_of, prefix_of, step_of, reach_of, cast_word_of, function_name, type_name, named_of, is_specified, words_of, named_type, specs_of, star_of, ptrs_of, bound_of, typeid_of, expr_of, args_of, braces_of, name_of, made_of_word, made_of_type, named_cast, member_of, more_of, postfixed, Operand, closed, closed_kind, prefixed, sizeof_operand, deleted, new_operand, cast_of, Turn, ends_open, chained, assigned_of, chosen_of, tailed, condition, thrown, comma_of}
+use Rattle.cx_syntax.specs.Values.{pick, span_of, ident_of, text_of, literal_of, modifier_of, word_of, either_of, elaboration_of, overloaded_of, binary_of, assignment_of, prefix_of, step_of, reach_of, cast_word_of, operator_named, destructor_named, function_name, type_name, named_of, is_specified, words_of, named_type, specs_of, star_of, ptrs_of, bound_of, typeid_of, expr_of, args_of, braces_of, name_of, made_of_word, made_of_type, named_cast, member_of, more_of, postfixed, Operand, closed, closed_kind, prefixed, sizeof_operand, deleted, new_operand, cast_of, Turn, ends_open, chained, assigned_of, chosen_of, tailed, condition, thrown, comma_of}
 
 -- the first reader where the next token is of the set, else the second
 abbrev pub choose : {A : Type 0} → (Class → Bool) → Reader Lexeme A → Reader Lexeme A → Reader Lexeme A
@@ -73,8 +75,16 @@ op = choose (just k.OpenParen) ((λ _. v.Call) <$> (is k.OpenParen ⊳ the (is k
     (choose (just k.OpenBracket) ((λ _. v.Subscript) <$> (is k.OpenBracket ⊳ the (is k.CloseBracket)))
     (token (pick is_single_operator overloaded_of)))
 
+-- "operator" op
+abbrev pub operator_name : Reader Lexeme OperatorName
+operator_name = operator_named <$> measured_by span_of (is k.Operator ⊳ op)
+
 unfoldable pub last_part : Reader Lexeme Last
-last_part = choose is_id (last.Ident <$> id) (last.Operator <$> (is k.Operator ⊳ op))
+last_part = choose is_id (last.Ident <$> id) (last.Operator <$> operator_name)
+
+-- "~" TYPE
+abbrev pub destructor_name : Reader Lexeme DestructorName
+destructor_name = destructor_named <$> measured_by span_of (is k.Tilde ⊳ type_only)
 
 -- a name with `::` behind it, while these two tokens stand there
 abbrev pub scope : Reader Lexeme Ident
@@ -108,7 +118,7 @@ qtype = type_name <$> measured_by span_of qtype_parts
 abbrev pub modifier : Reader Lexeme Modifier
 modifier = token (pick is_modifier modifier_of)
 
-abbrev pub word : Reader Lexeme TypeWord
+abbrev pub word : Reader Lexeme SimpleType
 word = token (pick is_word word_of)
 
 -- (key | "enum")?
@@ -212,7 +222,7 @@ module _ (d : Readers) where
   paren_args = args_of <$> measured_by span_of (is k.OpenParen ⊳ maybe_if (of class_at starts_assign) args ⊲ is k.CloseParen)
 
   unfoldable pub clause : Reader Lexeme Clause
-  clause = choose (just k.OpenBrace) (clauses.Braces <$> d.braces) (clauses.Expr <$> d.assign)
+  clause = choose (just k.OpenBrace) (clauses.Nested <$> d.braces) (clauses.Value <$> d.assign)
 
   -- one clause more
   abbrev pub other_clause : Reader Lexeme Clause
@@ -252,7 +262,7 @@ module _ (d : Readers) where
   word_made = made_of_word <$> (word >> given)
 
   unfoldable pub id_expression : Reader Lexeme ExprKind
-  id_expression = name_of <$> (colons >> fname)
+  id_expression = name_of <$> measured_by span_of (colons >> fname_parts)
 
   unfoldable pub type_made : Reader Lexeme ExprKind
   type_made = made_of_type <$> (qtype >> given)
@@ -273,7 +283,7 @@ module _ (d : Readers) where
   subscript = guarded d.room (m.Subscript <$> (is k.OpenBracket ⊳ d.expr ⊲ is k.CloseBracket))
 
   unfoldable pub member_part : Reader Lexeme MemberPart
-  member_part = choose (just k.Tilde) (part.Destructor <$> (is k.Tilde ⊳ type_only ⊲ is k.OpenParen ⊲ is k.CloseParen)) (part.Name <$> fname)
+  member_part = choose (just k.Tilde) (part.Destructor <$> (destructor_name ⊲ is k.OpenParen ⊲ is k.CloseParen)) (part.Name <$> fname)
 
   unfoldable pub member : Reader Lexeme MoreKind
   member = member_of <$> (token (pick is_reach reach_of) >> member_part)

@@ -9,6 +9,8 @@ use Rattle.cx_token_defs.specs.declared.TokenKind.TheVariants as kind
 use Rattle.cx_tree.specs.declared.names.Ident.{Ident}
 use Rattle.cx_tree.specs.declared.names.TypeName.{TypeName}
 use Rattle.cx_tree.specs.declared.names.FunctionName.{FunctionName}
+use Rattle.cx_tree.specs.declared.names.DestructorName.{DestructorName}
+use Rattle.cx_tree.specs.declared.names.OperatorName.{OperatorName}
 use Rattle.cx_tree.specs.declared.names.Last.{Last}
 use Rattle.cx_tree.specs.declared.operators.BinaryOp.{BinaryOp}
 use Rattle.cx_tree.specs.declared.operators.BinaryOp.TheVariants as o
@@ -24,6 +26,7 @@ use Rattle.cx_tree.specs.declared.specifiers.Elaboration.TheVariants as elaborat
 use Rattle.cx_tree.specs.declared.specifiers.ModifierWord.{ModifierWord}
 use Rattle.cx_tree.specs.declared.specifiers.ModifierWord.TheVariants as mod_word
 use Rattle.cx_tree.specs.declared.specifiers.Modifier.{Modifier}
+use Rattle.cx_tree.specs.declared.specifiers.SimpleType.{SimpleType}
 use Rattle.cx_tree.specs.declared.specifiers.TypeWord.{TypeWord}
 use Rattle.cx_tree.specs.declared.specifiers.TypeWord.TheVariants as w
 use Rattle.cx_tree.specs.declared.specifiers.WordOrModifier.{WordOrModifier}
@@ -132,8 +135,8 @@ word_by k.Unsigned = w.Unsigned
 word_by k.Auto = w.Auto
 word_by _ = w.Void
 
-abbrev pub word_of : Lexeme → TypeWord
-word_of t = word_by t.class
+abbrev pub word_of : Lexeme → SimpleType
+word_of t = record { word = word_by t.class; span = t.span }
 
 abbrev pub elaboration_by : Class → Elaboration
 elaboration_by k.Class = elaboration.Class key.Class
@@ -266,8 +269,14 @@ abbrev pub or_none : {A : Type 0} → Option (List A) → List A
 or_none None = []
 or_none (Some l) = l
 
+abbrev pub operator_named : Overloaded × Span → OperatorName
+operator_named u = record { operator = u.0; span = u.1 }
+
+abbrev pub destructor_named : Ident × Span → DestructorName
+destructor_named u = record { class = u.0; span = u.1 }
+
 abbrev pub function_name : (List Ident × Last) × Span → FunctionName
-function_name u = record { scopes = u.0.0; last = u.0.1; span = u.1 }
+function_name u = record { global = false; scopes = u.0.0; last = u.0.1; span = u.1 }
 
 abbrev pub type_name : (Option (Unit {0}) × (List Ident × Ident)) × Span → TypeName
 type_name u = record { global = is_there u.0.0; scopes = u.0.1.0; name = u.0.1.1; span = u.1 }
@@ -281,8 +290,8 @@ is_specified ([], None) = false
 is_specified (modifiers, Some t) = true
 is_specified (x ∷ xs, None) = true
 
-abbrev pub words_of : TypeWord × List WordOrModifier → SpecsType
-words_of u = specs_type.Words u.0 u.1
+abbrev pub words_of : SimpleType × List WordOrModifier → SpecsType
+words_of u = specs_type.Words u.0.word u.1
 
 abbrev pub named_type : Named × List Modifier → SpecsType
 named_type u = specs_type.Named u.0 u.1
@@ -315,10 +324,10 @@ args_of u = roll-Args (record { items = or_none u.0; span = u.1 })
 abbrev pub braces_of : Option (List Clause) × Span → Braces
 braces_of u = roll-Braces (record { clauses = or_none u.0; span = u.1 })
 
-abbrev pub name_of : Option (Unit {0}) × FunctionName → ExprKind
-name_of u = e.Name (is_there u.0) u.1
+abbrev pub name_of : (Option (Unit {0}) × (List Ident × Last)) × Span → ExprKind
+name_of u = e.Name (record { global = is_there u.0.0; scopes = u.0.1.0; last = u.0.1.1; span = u.1 })
 
-abbrev pub made_of_word : TypeWord × Given → ExprKind
+abbrev pub made_of_word : SimpleType × Given → ExprKind
 made_of_word u = e.OfWord u.0 u.1
 
 abbrev pub made_of_type : TypeName × Given → ExprKind

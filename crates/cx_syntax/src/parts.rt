@@ -1,6 +1,6 @@
 //! What a rule reads by the way, and no tree keeps.
 
-use cx_tree::{AssignOp, Expr, FunctionName, Ident};
+use cx_tree::{AssignOp, DestructorName, Expr, FunctionName};
 use sqlite_items::Boxed;
 
 /// What stands behind the chain of an assignment expression ([expr.ass], [expr.cond]).
@@ -17,5 +17,5 @@ pub enum Tail {
 pub enum MemberPart {
     Name(FunctionName),
     /// `~T()` ([expr.prim.id.dtor])
-    Destructor(Ident),
+    Destructor(DestructorName),
 }

@@ -82,15 +82,15 @@ none c = false
 
 heads_equals : Heads (λ n. vg.equals n) (at (just k.Equal))
 unfolding same_class
-heads_equals = heads_sub (sub (λ c. just k.Equal c || just k.Equal c) (just k.Equal) refl) (heads_or (heads_as i.Equals (heads_before {G = λ n. e.assign (e.deeper n)} (is k.Equal))) (heads_as i.EqualsBraces (heads_before {G = λ n. e.braces (e.deeper n)} (is k.Equal))))
+heads_equals = heads_sub (sub (λ c. just k.Equal c || just k.Equal c) (just k.Equal) refl) (heads_or (heads_as i.Equals (heads_before {G = λ n. e.assign (e.deeper n)} (is k.Equal))) (heads_as i.EqualsList (heads_before {G = λ n. e.braces (e.deeper n)} (is k.Equal))))
 
 -- at a `(`, where the arguments are not spelled; at the levels m
 module _ (m : ℕ → ℕ) (p : Lexeme) (w more : List Lexeme) (paren : is k.OpenParen p ≡ true) (s : Never (λ n. closed_args (m n)) w more) where
   never_init : Never (λ n. vg.init (m n)) (p ∷ w) (p ∷ more)
   unfolding same_class
   never_init = never_as init_of (never_measured span_of (never_two (never_elsewhere (heads_at m heads_equals) (p ∷ w) (unseen_by (apart (just k.OpenParen) (just k.Equal) refl) (p ∷ w) paren) (p ∷ more))
-      (never_two (never_elsewhere (heads_as i.Braces (heads_at m h.heads_braces)) (p ∷ w) (unseen_by (apart (just k.OpenParen) (just k.OpenBrace) refl) (p ∷ w) paren) (p ∷ more))
-      (never_as i.Args (never_as list_of (never_measured span_of (never_led (is k.OpenParen) p s)))))))
+      (never_two (never_elsewhere (heads_as i.DirectList (heads_at m h.heads_braces)) (p ∷ w) (unseen_by (apart (just k.OpenParen) (just k.OpenBrace) refl) (p ∷ w) paren) (p ∷ more))
+      (never_as i.Direct (never_as list_of (never_measured span_of (never_led (is k.OpenParen) p s)))))))
 
   pub paren_var_end : Short (λ n. var_end (m n)) (at (just k.OpenParen)) (p ∷ w) (p ∷ more)
   unfolding same_class

@@ -105,7 +105,7 @@ module _ (t : Lexeme) (ts : List Lexeme) (id : is_id t.class ≡ true) (lone : s
   last_read : name_behind (t ∷ ts) ≡ done (last.Ident (ident_of t)) ts
   unfolding er.last_part
   last_read = ap (λ b. if b then refuse ts else er.last_part (t ∷ ts)) ends_name
-      ∙ ap (λ b. if b then made last.Ident (token_by (if b then Some (ident_of t) else None) t ts) else (last.Operator <$$> (is k.Operator ▷ er.op)) (t ∷ ts)) id
+      ∙ ap (λ b. if b then made last.Ident (token_by (if b then Some (ident_of t) else None) t ts) else (last.Operator <$$> er.operator_name) (t ∷ ts)) id
 
   parts_read : er.fname_parts (t ∷ ts) ≡ done ([], last.Ident (ident_of t)) ts
   unfolding many_when

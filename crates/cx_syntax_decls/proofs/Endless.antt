@@ -8,7 +8,7 @@ use Rattle.cx_syntax.specs.Classes.{class_at, same_class}
 use Rattle.cx_syntax.specs.Sets.{is_id, is_modifier, is_type}
 use Rattle.cx_syntax.specs.Values.{ident_of, modifier_of}
 use Rattle.cx_syntax.specs.Grammar as e
-use Rattle.cx_syntax.proofs.Endless.{Endless, before, behind, endless_below, endless_fname, endless_pick, endless_ptrs, endless_qtype, endless_specs, endless_the, given, not_end}
+use Rattle.cx_syntax.proofs.Endless.{Endless, before, behind, endless_below, endless_destructor_name, endless_fname, endless_pick, endless_ptrs, endless_qtype, endless_specs, endless_the, given, not_end}
 use Rattle.cx_syntax_decls.specs.Grammar as g
 use Rattle.cx_syntax_decls.specs.Grammar.{final_class}
 use Rattle.cx_syntax_decls.specs.Sets.{is_final, is_key}
@@ -43,7 +43,7 @@ module _ (n : ℕ) where
 
   pub endless_dtor : Endless (g.dtor n)
   unfolding same_class
-  endless_dtor = plain_as _ (plain_both (endless_attrs n) (plain_both mods (before k.Tilde refl (plain_both (behind k.CloseParen refl (behind k.OpenParen refl (endless_pick is_type ident_of refl))) (plain_both (endless_noex n) (plain_both endless_virt body))))))
+  endless_dtor = plain_as _ (plain_both (endless_attrs n) (plain_both mods (plain_both (behind k.CloseParen refl (behind k.OpenParen refl endless_destructor_name)) (plain_both (endless_noex n) (plain_both endless_virt body)))))
 
   pub endless_base : Endless (g.base n)
   endless_base = plain_as _ (plain_measured _ (plain_both (endless_attrs n) (plain_both (plain_maybe endless_access) endless_qtype)))

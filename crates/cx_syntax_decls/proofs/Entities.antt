@@ -66,7 +66,11 @@ heads_entity_kind = heads_sub (sub (λ c. starts_var c || starts_function c) sta
 
 pub name_short : {q : Lexeme → Bool} {u used : List Lexeme} → Short (λ n. e.id_expression (e.deeper n)) q u used → Short (λ n. e.fname) q u used
 name_short s = record {
-  only = λ n x y w c z. s.only n x y (name_of (None, w)) c (record { value = (None, w); made = refl; part = record { front = []; back = x; cut = refl; first = inl (record { value = tt; made = refl; part = refl }); second = z } });
+  only = λ n x y w c z. s.only n x y (name_of ((None, z.value.0), z.value.1)) c (record {
+    value = ((None, z.value.0), z.value.1);
+    made = refl;
+    part = record { part = record { front = []; back = x; cut = refl; first = inl (record { value = tt; made = refl; part = refl }); second = z.part.part }; measure = z.part.measure };
+  });
   ends = λ n x y c b. s.ends n x y c (in_second [] x None refl (inl (record { value = tt; made = refl; part = refl })) b);
 }
 

@@ -77,7 +77,7 @@ module _ (t : Lexeme) where
   entity_begun n i = or_either (just k.OpenBracket t.class) (starts_specs t.class) i (λ j. record { part = in_first (attrs_begun n j); clear = refl }) (specs_begun n)
 
   dtor_begun : (n : ℕ) → is k.Tilde t ≡ true → (g.dtor n).begins (t ∷ [])
-  dtor_begun n i = in_second [] (t ∷ []) _ refl (record { value = []; made = refl; part = refl }) (in_second [] (t ∷ []) [] refl refl (in_first (the_begun k.Tilde i)))
+  dtor_begun n i = in_second [] (t ∷ []) _ refl (record { value = []; made = refl; part = refl }) (in_second [] (t ∷ []) [] refl refl (in_first (in_first (in_first (in_first (the_begun k.Tilde i))))))
 
   functions_begun : (n : ℕ) → starts_function t.class ≡ true → (functions n).begins (t ∷ [])
   functions_begun n i = or_either (just k.Tilde t.class) (starts_entity t.class) i (λ j. inr (some refl (inl (some refl (dtor_begun n j))))) (λ j. functions_begin n (t ∷ []) (entity_begun n j))

@@ -4,7 +4,8 @@ use Rattle.cx_grammar.specs.Language.{maybe, separated, present, nothing, some, 
 use Rattle.cx_grammar.specs.Exact.{Family, GoesOn, Outcome, Within}
 use Rattle.cx_grammar.specs.Reading.{made, sees, ◌>>◌ as ◌|>◌}
 use Rattle.cx_grammar.specs.Sets.{by, never}
-use Rattle.cx_grammar.proofs.Heads.{Heads, heads_as, heads_both, heads_before, heads_measured, heads_or, heads_sub, opens_maybe, opens_sub, never_apart, never_sub, same_sub}
+use Rattle.cx_tree.specs.declared.names.DestructorName.{DestructorName}
+use Rattle.cx_grammar.proofs.Heads.{Heads, heads_as, heads_behind, heads_both, heads_before, heads_measured, heads_or, heads_sub, opens_maybe, opens_sub, never_apart, never_sub, same_sub}
 use Rattle.cx_grammar.proofs.Steps.{Exactly, exactly_token, exactly_as, exactly_before, exactly_behind, exactly_both, exactly_maybe, exactly_separated}
 use Rattle.cx_grammar.proofs.Levels.{there_present, present_at}
 use Rattle.cx_grammar.proofs.Choices.{Right, right_of, first_of_two}
@@ -30,7 +31,7 @@ use Rattle.cx_syntax.proofs.Depth.{heads_given}
 use Rattle.cx_syntax.proofs.Exact.{sound}
 use Rattle.cx_syntax.proofs.Fronts.{never_as, never_covers, none_front}
 use Rattle.cx_syntax.proofs.Lists.{exactly_given}
-use Rattle.cx_syntax.proofs.Names.{exactly_qtype, heads_qtype}
+use Rattle.cx_syntax.proofs.Names.{exactly_destructor_name, exactly_qtype, heads_destructor_name, heads_qtype}
 use Rattle.cx_syntax_parts.specs.Goes.{goes_noex}
 use Rattle.cx_syntax_parts.specs.Grammar as pg
 use Rattle.cx_syntax_parts.specs.Sets.{starts_tail}
@@ -163,13 +164,13 @@ heads_ctor_end = heads_both (λ n. g.paren_params n >> pg.noex n >> g.ctor_body 
 
 -- ---- the end of a destructor
 
-abbrev dtor_name : Family Lexeme Ident
-dtor_name n = e.type_only ⊲ is k.OpenParen ⊲ is k.CloseParen
+abbrev dtor_name : Family Lexeme DestructorName
+dtor_name n = e.destructor_name ⊲ is k.OpenParen ⊲ is k.CloseParen
 
 pub exactly_dtor_end : (left : ℕ) → Exactly (λ n. g.dtor_end n) (by never) left (r.dtor_end left)
 unfolding r.dtor_end
-exactly_dtor_end left = exactly_before (is k.Tilde) (exactly_both (exactly_behind (is k.CloseParen) (exactly_behind (is k.OpenParen) exactly_token (never_apart (is k.OpenParen))) (never_apart (is k.CloseParen)))
-    (exactly_noex_end left) heads_noex_end (never_apart (at starts_noex_end)))
+exactly_dtor_end left = exactly_both (exactly_behind (is k.CloseParen) (exactly_behind (is k.OpenParen) (exactly_destructor_name left) (never_apart (is k.OpenParen))) (never_apart (is k.CloseParen)))
+    (exactly_noex_end left) heads_noex_end (never_apart (at starts_noex_end))
 
 pub heads_dtor_end : Heads (λ n. g.dtor_end n) (at (just k.Tilde))
-heads_dtor_end = heads_before {G = λ n. dtor_name n >> pg.noex n >> pg.virt >> g.body n} (is k.Tilde)
+heads_dtor_end = heads_both (λ n. pg.noex n >> pg.virt >> g.body n) (heads_behind {G = λ n. e.destructor_name ⊲ is k.OpenParen} (is k.CloseParen) (heads_behind {G = λ n. e.destructor_name} (is k.OpenParen) heads_destructor_name))

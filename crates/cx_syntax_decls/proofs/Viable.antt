@@ -16,7 +16,7 @@ use Rattle.cx_syntax.proofs.Ahead.{and_first, and_second, no_second}
 use Rattle.cx_syntax.proofs.Basics.{apart, begun_pick, both_true, false_of, sub}
 use Rattle.cx_syntax.proofs.TypeOrExpr.{typed_specs, unseen_by, word_typed}
 use Rattle.cx_syntax.proofs.Continued.{Goes, Viable, viable_absent, viable_as, viable_both, viable_many, viable_maybe, viable_measured, viable_or, viable_the, viable_there}
-use Rattle.cx_syntax.proofs.Viable.{before, behind, given, sample, some_pick, some_the, viable_below, viable_fname, viable_ptrs, viable_qtype, viable_specs}
+use Rattle.cx_syntax.proofs.Viable.{before, behind, given, sample, some_pick, some_the, viable_below, viable_destructor_name, viable_fname, viable_ptrs, viable_qtype, viable_specs}
 use Rattle.cx_syntax_decls.specs.Grammar as g
 use Rattle.cx_syntax_decls.specs.Grammar.{final_class}
 use Rattle.cx_syntax_decls.specs.Sets.{is_final, is_key}
@@ -54,7 +54,7 @@ module _ (n : ℕ) where
 
   pub viable_dtor : Viable (g.dtor n)
   unfolding same_class
-  viable_dtor = viable_as _ (viable_both (viable_attrs n) (viable_both mods (before k.Tilde refl (viable_both (behind k.CloseParen refl (behind k.OpenParen refl (some_pick is_type ident_of k.TypeName refl))) (viable_both (viable_noex n) (viable_both viable_virt body))))))
+  viable_dtor = viable_as _ (viable_both (viable_attrs n) (viable_both mods (viable_both (behind k.CloseParen refl (behind k.OpenParen refl viable_destructor_name)) (viable_both (viable_noex n) (viable_both viable_virt body)))))
 
   pub viable_base : Viable (g.base n)
   viable_base = viable_as _ (viable_measured _ (viable_both (viable_attrs n) (viable_both (viable_maybe viable_access) viable_qtype)))

@@ -36,7 +36,7 @@ use Rattle.cx_syntax.specs.Classes.{class_at, is}
 use Rattle.cx_syntax.specs.Sets.{is_type}
 use Rattle.cx_syntax.specs.Values.{pick, span_of}
 use Rattle.cx_syntax.specs.Grammar as g
-use Rattle.cx_syntax.specs.Grammar.{id, type_only, fname, qtype, modifier, specs, ptrs}
+use Rattle.cx_syntax.specs.Grammar.{id, type_only, destructor_name, fname, qtype, modifier, specs, ptrs}
 use Rattle.cx_syntax_parts.specs.Grammar as parts
 use Rattle.cx_syntax_parts.specs.Grammar.{tail, virt, access}
 use Rattle.cx_syntax_vars.specs.Grammar as variables
@@ -108,7 +108,7 @@ module _ (n : ℕ) where
 
   -- "~" TYPE "(" ")" noex virt (tail | block)
   abbrev pub dtor_end : Language Lexeme DestructorEnd
-  dtor_end = is k.Tilde ⊳ ((type_only ⊲ is k.OpenParen ⊲ is k.CloseParen) >> parts.noex n >> virt >> body)
+  dtor_end = (destructor_name ⊲ is k.OpenParen ⊲ is k.CloseParen) >> parts.noex n >> virt >> body
 
   -- dtor = attrs mod* "~" TYPE "(" ")" noex virt (tail | block)
   abbrev pub dtor : Language Lexeme Destructor

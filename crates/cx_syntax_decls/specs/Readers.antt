@@ -42,8 +42,9 @@ use Rattle.cx_grammar.specs.Sets.{of}
 use Rattle.cx_syntax.specs.Ahead.{type_fault}
 use Rattle.cx_syntax.specs.Classes.{class_at, is}
 use Rattle.cx_syntax.specs.Values.{pick, span_of}
+use Rattle.cx_tree.specs.declared.names.DestructorName.{DestructorName}
 use Rattle.cx_syntax.specs.Readers as r
-use Rattle.cx_syntax.specs.Readers.{choose, just, id, type_only, fname, qtype, modifiers, ptrs}
+use Rattle.cx_syntax.specs.Readers.{choose, just, id, type_only, destructor_name, fname, qtype, modifiers, ptrs}
 use Rattle.cx_syntax_parts.specs.Readers as parts
 use Rattle.cx_syntax_parts.specs.Readers.{tail, virt, access}
 use Rattle.cx_syntax_parts.specs.Sets.{is_access, starts_tail}
@@ -150,15 +151,12 @@ module _ (n : ℕ) where
   abbrev pub ctor_behind : Reader Lexeme (List Modifier × ConstructorEnd)
   ctor_behind = modifiers >> ctor_end
 
-  -- TYPE "(" ")"
-  abbrev pub dtor_name : Reader Lexeme Ident
-  dtor_name = type_only ⊲ is k.OpenParen ⊲ is k.CloseParen
-
-  abbrev pub dtor_parts : Reader Lexeme DestructorEnd
-  dtor_parts = dtor_name >> noex_end
+  -- "~" TYPE "(" ")"
+  abbrev pub dtor_name : Reader Lexeme DestructorName
+  dtor_name = destructor_name ⊲ is k.OpenParen ⊲ is k.CloseParen
 
   unfoldable pub dtor_end : Reader Lexeme DestructorEnd
-  dtor_end = is k.Tilde ⊳ dtor_parts
+  dtor_end = dtor_name >> noex_end
 
   -- a destructor behind its attributes
   abbrev pub dtor_behind : Reader Lexeme (List Modifier × DestructorEnd)

@@ -1,6 +1,7 @@
 -- What each rule gives, from the values of its parts in order.
 use Rattle.std.specs.Prelude.{ℕ, List, [], Option}
 use Rattle.cx_base.specs.declared.diag.Span.{Span}
+use Rattle.cx_tree.specs.declared.names.DestructorName.{DestructorName}
 use Rattle.cx_tree.specs.declared.names.Ident.{Ident}
 use Rattle.cx_tree.specs.declared.names.TypeName.{TypeName}
 use Rattle.cx_tree.specs.declared.names.FunctionName.{FunctionName}
@@ -82,7 +83,7 @@ abbrev pub constructor_of : ℕ × (List Modifier × ConstructorEnd) → Constru
 constructor_of u = record { attrs = u.0; modifiers = u.1.0; name = u.1.1.0; params = or_none u.1.1.1.0; noexcept = u.1.1.1.1.0; body = u.1.1.1.1.1 }
 
 abbrev pub DestructorEnd : Type 0
-DestructorEnd = Ident × (ℕ × (List Virtual × Body))
+DestructorEnd = DestructorName × (ℕ × (List Virtual × Body))
 
 abbrev pub destructor_of : ℕ × (List Modifier × DestructorEnd) → Destructor
 destructor_of u = record { attrs = u.0; modifiers = u.1.0; name = u.1.1.0; noexcept = u.1.1.1.0; virtuals = u.1.1.1.1.0; body = u.1.1.1.1.1 }

@@ -63,7 +63,7 @@ heads_label = heads_as label_of (heads_measured _ (heads_sub (sub (λ c. just k.
 
 pub heads_returned : Heads (λ n. g.returned n) (at starts_clause)
 unfolding same_class
-heads_returned = heads_sub (sub (λ c. starts_assign c || just k.OpenBrace c) starts_clause refl) (heads_or (heads_as ret.Expr h.heads_expr) (heads_as ret.Braces h.heads_braces))
+heads_returned = heads_sub (sub (λ c. starts_assign c || just k.OpenBrace c) starts_clause refl) (heads_or (heads_as ret.Value h.heads_expr) (heads_as ret.List h.heads_braces))
 
 -- ---- statements
 

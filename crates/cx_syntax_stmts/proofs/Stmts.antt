@@ -96,10 +96,10 @@ exactly_expr_stmt left = exactly_as kinds.Expr (exactly_behind (is k.Semicolon) 
 
 pub exactly_returned : (left : ℕ) → Exactly (λ n. g.returned n) (by (at goes_args)) left (r.returned left)
 unfolding r.returned same_class
-exactly_returned left = exactly_same (swapped (λ n. ret.Braces <$> e.braces (e.deeper n)) (λ n. ret.Expr <$> e.expr (e.deeper n)))
-    (exactly_choice (just k.OpenBrace) starts_assign refl (heads_as ret.Braces h.heads_braces) (heads_as ret.Expr h.heads_expr)
-    (present_at refl (λ n. refl) (exactly_as ret.Braces (exactly_widened (never_sub (at goes_args)) (exactly_braces left (sound left)))))
-    (exactly_stays refl (λ n. refl) (exactly_as ret.Expr (exactly_expr left))))
+exactly_returned left = exactly_same (swapped (λ n. ret.List <$> e.braces (e.deeper n)) (λ n. ret.Value <$> e.expr (e.deeper n)))
+    (exactly_choice (just k.OpenBrace) starts_assign refl (heads_as ret.List h.heads_braces) (heads_as ret.Value h.heads_expr)
+    (present_at refl (λ n. refl) (exactly_as ret.List (exactly_widened (never_sub (at goes_args)) (exactly_braces left (sound left)))))
+    (exactly_stays refl (λ n. refl) (exactly_as ret.Value (exactly_expr left))))
 
 abbrev pub goes_returned : Class → Bool
 goes_returned c = goes_args c || starts_clause c

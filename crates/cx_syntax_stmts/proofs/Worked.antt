@@ -172,7 +172,7 @@ abbrev a : Ident
 a = record { text = []; span = here }
 
 abbrev named : Expr
-named = expr_of (name_of (None, function_name (([], last.Ident a), here)), here)
+named = expr_of (name_of ((None, ([], last.Ident a)), here), here)
 
 abbrev plain : StmtKind → Stmt
 plain kind = stmt_of ((0, kind), here)

@@ -71,7 +71,7 @@ module _ (n : ℕ) where
 
   -- expr | braces
   abbrev pub returned : Language Lexeme Returned
-  returned = (r.Expr <$> e.expr (e.deeper n)) ∥ (r.Braces <$> e.braces (e.deeper n))
+  returned = (r.Value <$> e.expr (e.deeper n)) ∥ (r.List <$> e.braces (e.deeper n))
 
   -- "return" (expr | braces)? ";"
   abbrev pub return_stmt : Language Lexeme StmtKind

@@ -100,7 +100,7 @@ module _ (n : ℕ) where
   expr_stmt = s.Expr <$> (plain (e.expr (e.deeper n)) ⊲ is k.Semicolon)
 
   unfoldable pub returned : Reader Lexeme Returned
-  returned = choose (just k.OpenBrace) (ret.Braces <$> e.braces (e.deeper n)) (ret.Expr <$> e.expr (e.deeper n))
+  returned = choose (just k.OpenBrace) (ret.List <$> e.braces (e.deeper n)) (ret.Value <$> e.expr (e.deeper n))
 
   unfoldable pub return_stmt : Reader Lexeme StmtKind
   return_stmt = s.Return <$> (is k.Return ⊳ maybe_if (of class_at starts_clause) returned ⊲ is k.Semicolon)

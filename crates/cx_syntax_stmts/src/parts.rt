@@ -2,14 +2,15 @@
 
 use cx_base::List;
 use cx_tree::{Expr, ForStart, Ident, Ptrs, Specs, StmtKind, Var};
+use sqlite_items::Boxed;
 
 /// What stands in the parentheses of a `for`.
 #[derive(Drop)]
 pub enum ForHead {
     /// What stands before the first `;`, the condition and the step ([stmt.for]).
-    Steps(ForStart, Option<Expr>, Option<Expr>),
+    Steps(Boxed<ForStart>, Option<Boxed<Expr>>, Option<Boxed<Expr>>),
     /// The variable and the range ([stmt.ranged]).
-    Range(Specs, Ptrs, Ident, Expr),
+    Range(Boxed<Specs>, Ptrs, Ident, Boxed<Expr>),
 }
 
 /// What stands behind attributes in a block.

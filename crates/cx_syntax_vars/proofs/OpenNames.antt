@@ -141,16 +141,19 @@ pub record ExprBehind (x : List Lexeme) : Type 0 where
 plain_first : (t : Lexeme) (x : List Lexeme) → sees (is k.ColonColon) (t ∷ x) ≡ false → NameBehind (t ∷ x) → ExprBehind (t ∷ x)
 plain_first t x e n = record {
   more = n.more;
-  value = name_of (None, function_name (n.value, span_of (t ∷ (x ++ n.more))));
+  value = name_of ((None, n.value), span_of (t ∷ (x ++ n.more)));
   spelled = λ m. record {
-    value = (None, function_name (n.value, span_of (t ∷ (x ++ n.more))));
+    value = ((None, n.value), span_of (t ∷ (x ++ n.more)));
     made = refl;
     part = record {
-      front = [];
-      back = t ∷ (x ++ n.more);
-      cut = refl;
-      first = inl (record { value = tt; made = refl; part = refl });
-      second = record { value = (n.value, span_of (t ∷ (x ++ n.more))); made = refl; part = record { part = n.spelled; measure = refl } };
+      part = record {
+        front = [];
+        back = t ∷ (x ++ n.more);
+        cut = refl;
+        first = inl (record { value = tt; made = refl; part = refl });
+        second = n.spelled;
+      };
+      measure = refl;
     };
   };
   end = ap (λ b. ends_by b (t ∷ (x ++ n.more))) e ∙ n.end;
@@ -159,16 +162,19 @@ plain_first t x e n = record {
 global_first : (t : Lexeme) (x : List Lexeme) → is k.ColonColon t ≡ true → NameBehind x → ExprBehind (t ∷ x)
 global_first t x e n = record {
   more = n.more;
-  value = name_of (Some tt, function_name (n.value, span_of (x ++ n.more)));
+  value = name_of ((Some tt, n.value), span_of (t ∷ (x ++ n.more)));
   spelled = λ m. record {
-    value = (Some tt, function_name (n.value, span_of (x ++ n.more)));
+    value = ((Some tt, n.value), span_of (t ∷ (x ++ n.more)));
     made = refl;
     part = record {
-      front = t ∷ [];
-      back = x ++ n.more;
-      cut = refl;
-      first = inr (record { value = tt; made = refl; part = record { token = t; alone = refl; fits = ap (λ b. if b then Some tt else None) e } });
-      second = record { value = (n.value, span_of (x ++ n.more)); made = refl; part = record { part = n.spelled; measure = refl } };
+      part = record {
+        front = t ∷ [];
+        back = x ++ n.more;
+        cut = refl;
+        first = inr (record { value = tt; made = refl; part = record { token = t; alone = refl; fits = ap (λ b. if b then Some tt else None) e } });
+        second = n.spelled;
+      };
+      measure = refl;
     };
   };
   end = ap (λ b. ends_by b (t ∷ (x ++ n.more))) e ∙ n.end;

@@ -125,9 +125,9 @@ typedef_cases =
 -- which initializer it is
 abbrev pub kind_seen : InitKind → ℕ
 kind_seen (i.Equals e) = 0
-kind_seen (i.EqualsBraces b) = 1
-kind_seen (i.Braces b) = 2
-kind_seen (i.Args a) = 3
+kind_seen (i.EqualsList b) = 1
+kind_seen (i.DirectList b) = 2
+kind_seen (i.Direct a) = 3
 
 abbrev pub init_seen : Option Init → Option ℕ
 init_seen None = None

@@ -42,7 +42,7 @@ module _ (n : ℕ) where
 
   -- "=" assign | "=" braces
   abbrev pub equals : Language Lexeme InitKind
-  equals = (i.Equals <$> (is k.Equal ⊳ assign)) ∥ (i.EqualsBraces <$> (is k.Equal ⊳ braces))
+  equals = (i.Equals <$> (is k.Equal ⊳ assign)) ∥ (i.EqualsList <$> (is k.Equal ⊳ braces))
 
   -- args that do not begin with a word, nor with a type's name that something is made of
   abbrev pub init_args : Language Lexeme (List Expr)
@@ -54,7 +54,7 @@ module _ (n : ℕ) where
 
   -- init = "=" assign | "=" braces | braces | "(" args ")"
   abbrev pub init : Language Lexeme Init
-  init = init_of <$> measured span_of (equals ∥ (i.Braces <$> braces) ∥ (i.Args <$> paren_init))
+  init = init_of <$> measured span_of (equals ∥ (i.DirectList <$> braces) ∥ (i.Direct <$> paren_init))
 
   -- ---- variables and parameters
 

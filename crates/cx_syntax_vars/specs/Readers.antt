@@ -75,7 +75,7 @@ module _ (n : ℕ) where
 
   -- behind `=`
   unfoldable pub equals_value : Reader Lexeme InitKind
-  equals_value = choose (just k.OpenBrace) (i.EqualsBraces <$> braces) (i.Equals <$> assign)
+  equals_value = choose (just k.OpenBrace) (i.EqualsList <$> braces) (i.Equals <$> assign)
 
   abbrev pub equals : Reader Lexeme InitKind
   equals = is k.Equal ⊳ equals_value
@@ -95,7 +95,7 @@ module _ (n : ℕ) where
   paren_init = guarded (deeper n).room (list_of <$> measured_by span_of paren_parts)
 
   unfoldable pub init_kind : Reader Lexeme InitKind
-  init_kind = choose (just k.OpenParen) (i.Args <$> paren_init) (choose (just k.Equal) equals (i.Braces <$> braces))
+  init_kind = choose (just k.OpenParen) (i.Direct <$> paren_init) (choose (just k.Equal) equals (i.DirectList <$> braces))
 
   unfoldable pub init : Reader Lexeme Init
   init = init_of <$> measured_by span_of init_kind

@@ -1,7 +1,7 @@
 //! Declarations ([dcl.dcl], [class]).
 
 use crate::exprs::{Bound, Expr, Given, TypeId};
-use crate::names::{FunctionName, Ident, TypeName};
+use crate::names::{DestructorName, FunctionName, Ident, TypeName};
 use crate::specifiers::{ClassKey, Modifier, Ptrs, Specs};
 use crate::stmts::{Block, Var};
 use cx_base::{List, Span, Text};
@@ -206,7 +206,7 @@ pub struct Destructor {
     /// How many levels its attributes nest.
     pub attrs: u32,
     pub modifiers: List<Modifier>,
-    pub name: Ident,
+    pub name: DestructorName,
     /// How many levels its `noexcept` nests.
     pub noexcept: u32,
     pub virtuals: List<Virtual>,

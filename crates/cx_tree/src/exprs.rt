@@ -1,8 +1,8 @@
 //! Expressions, and what stands in them ([expr]).
 
-use crate::names::{FunctionName, Ident, TypeName};
+use crate::names::{DestructorName, FunctionName, TypeName};
 use crate::operators::{AssignOp, BinaryOp, PrefixOp};
-use crate::specifiers::{Ptrs, Specs, Star, TypeWord};
+use crate::specifiers::{Ptrs, SimpleType, Specs, Star};
 use cx_base::{List, Span, Text};
 use cx_ints::Int;
 use sqlite_items::Boxed;
@@ -32,12 +32,12 @@ pub enum ExprKind {
     This,
     /// An expression in parentheses ([expr.prim.paren]).
     Paren(Boxed<Expr>),
-    /// Whether `::` stands before the name ([expr.prim.id]).
-    Name(bool, Boxed<FunctionName>),
+    /// [expr.prim.id]
+    Name(Boxed<FunctionName>),
     /// `int(e)`, `int{e}` ([expr.type.conv]).
-    OfWord(TypeWord, Given),
+    OfWord(SimpleType, Boxed<Given>),
     /// `T(e)`, `T{e}` ([expr.type.conv]).
-    OfType(Boxed<TypeName>, Given),
+    OfType(Boxed<TypeName>, Boxed<Given>),
     /// `static_cast<T>(e)` and the like ([expr.static.cast], [expr.const.cast], [expr.reinterpret.cast]).
     NamedCast(CastWord, Boxed<TypeId>, Boxed<Expr>),
     /// A head and what stands behind it, at least one part, each an operation on all before it ([expr.post]).
@@ -97,7 +97,7 @@ pub enum MoreKind {
     /// `.name`, `->name` ([expr.ref]).
     Member(Reach, Boxed<FunctionName>),
     /// `.~T()`, `->~T()` ([expr.prim.id.dtor]).
-    Destroy(Reach, Ident),
+    Destroy(Reach, DestructorName),
 }
 
 /// How a member is reached.
@@ -135,8 +135,8 @@ pub struct Braces {
 #[cycle(expr)]
 #[derive(Drop)]
 pub enum Clause {
-    Expr(Expr),
-    Braces(Braces),
+    Value(Expr),
+    Nested(Braces),
 }
 
 /// What an object is made from.

@@ -20,11 +20,11 @@ pub use exprs::{
     Args, Bound, Braces, CastWord, Clause, Expr, ExprKind, Given, More, MoreKind, New, Operation,
     Reach, TypeId,
 };
-pub use names::{FunctionName, Ident, Last, TypeName};
+pub use names::{DestructorName, FunctionName, Ident, Last, OperatorName, TypeName};
 pub use operators::{AssignOp, BinaryOp, Overloaded, PrefixOp};
 pub use specifiers::{
-    ClassKey, Elaboration, Modifier, ModifierWord, Named, Ptrs, Specs, SpecsType, Star, TypeWord,
-    WordOrModifier,
+    ClassKey, Elaboration, Modifier, ModifierWord, Named, Ptrs, SimpleType, Specs, SpecsType, Star,
+    TypeWord, WordOrModifier,
 };
 pub use stmts::{
     Block, ForStart, Init, InitKind, Item, Label, LabelKind, Local, Returned, Stmt, StmtKind,

@@ -53,6 +53,13 @@ pub enum TypeWord {
     Auto,
 }
 
+/// A fundamental type's word where it stands ([dcl.type.simple]).
+#[derive(Clone, Copy)]
+pub struct SimpleType {
+    pub word: TypeWord,
+    pub span: Span,
+}
+
 /// A word behind the first word of a type.
 #[derive(Clone, Copy, Debug, PartialEq, Eq)]
 pub enum WordOrModifier {

@@ -99,8 +99,8 @@ pub enum LabelKind {
 /// What a `return` gives.
 #[derive(Drop)]
 pub enum Returned {
-    Expr(Expr),
-    Braces(Braces),
+    Value(Expr),
+    List(Braces),
 }
 
 /// Variables of a block ([dcl.pre]).
@@ -138,9 +138,9 @@ pub enum InitKind {
     /// `= e`
     Equals(Expr),
     /// `= {a, b}`
-    EqualsBraces(Braces),
+    EqualsList(Braces),
     /// `{a, b}`
-    Braces(Braces),
+    DirectList(Braces),
     /// `(a, b)`
-    Args(Args),
+    Direct(Args),
 }

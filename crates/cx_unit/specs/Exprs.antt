@@ -68,9 +68,12 @@ unscoped values [] last span = last_named values last span
 unscoped values (scope ∷ scopes) last span = left_out span
 
 -- a name without `::` before it or in it
-abbrev pub named : Values → Bool → FunctionName → Span → Found
-named values true name span = left_out span
-named values false name span = unscoped values name.scopes name.last span
+abbrev pub named_by : Values → Bool → FunctionName → Span → Found
+named_by values true name span = left_out span
+named_by values false name span = unscoped values name.scopes name.last span
+
+abbrev pub named : Values → FunctionName → Span → Found
+named values name span = named_by values name.global name span
 
 -- ---- operations
 
@@ -133,7 +136,7 @@ OfKind = Span → Values → Found
 
 abbrev pub kind_step : ExprKind-F (Unit {0}) OfKind (Unit {0}) (Unit {0}) (Unit {0}) (Unit {0}) (Unit {0}) Walk (Unit {0}) (Unit {0}) Step (Unit {0}) → OfKind
 kind_step (ExprKind-F.Number int) span values = literal int span
-kind_step (ExprKind-F.Name global name) span values = named values global name span
+kind_step (ExprKind-F.Name name) span values = named values name span
 -- ( e )
 kind_step (ExprKind-F.Paren e) span values = e.found values
 -- a + b * c

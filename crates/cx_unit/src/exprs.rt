@@ -43,10 +43,10 @@ fn value_of(values: &Names<i32>, name: &Ident) -> Found
 }
 
 // A name without `::` before it or in it ([basic.lookup]).
-fn named(values: &Names<i32>, global: bool, name: &FunctionName, span: Span) -> Found
-    ensures { result ≡ spec.named values.now global name.now span }
+fn named(values: &Names<i32>, name: &FunctionName, span: Span) -> Found
+    ensures { result ≡ spec.named values.now name.now span }
 {
-    if global || name.scopes.len() != 0 {
+    if name.global || name.scopes.len() != 0 {
         return left_out(span);
     }
     match &name.last {
@@ -76,7 +76,7 @@ pub fn found_in(values: &Names<i32>, expr: &Expr) -> Found
 {
     match &expr.kind {
         ExprKind::Number(int) => literal(*int, expr.extent),
-        ExprKind::Name(global, name) => named(values, *global, name.get(), expr.extent),
+        ExprKind::Name(name) => named(values, name.get(), expr.extent),
         ExprKind::Paren(inner) => found_in(values, inner.get()),
         // operations of one level, from left to right ([expr.add], [expr.mul])
         ExprKind::Chain(first, operations) => {

@@ -1,5 +1,5 @@
 -- A list of tokens has a tree or a fault, never both, and one of either.
-use Rattle.std.proofs.Common.{◌≡◌, ◌⊎◌, inl, inr, ℕ, suc, ◌-◌, List, [], ◌∷◌, ◌++◌, length, drop, length-append, refl, sym, ◌∙◌, ap, subst, arith}
+use Rattle.std.proofs.Common.{◌≡◌, ◌⊎◌, inl, inr, ℕ, suc, ◌-◌, ◌≤◌, List, [], ◌∷◌, ◌++◌, length, drop, length-append, refl, sym, ◌∙◌, ap, subst, arith}
 use Rattle.std.proofs.Math.Seq.{drop-append_seam}
 use Rattle.cx_base.specs.declared.diag.Diag.{Diag}
 use Rattle.cx_base.specs.declared.rule.Rule.{Rule}
@@ -12,8 +12,7 @@ use Rattle.cx_syntax_decls.specs.Symbols as symbols
 use Rattle.cx_syntax_decls.proofs.Knots.{exactly_unit}
 use Rattle.cx_token_defs.specs.declared.Token.{Token}
 use Rattle.cx_tree.specs.declared.decls.Unit.{Unit as Tree}
-use Rattle.cx_unit_parser.specs.declared.parsing.ParseAnswer.{ParseAnswer}
-use Rattle.cx_unit_parser.specs.Parsing.{EndsInEnd, Explains, IsTree, IsFault, seen}
+use Rattle.cx_unit_parser.specs.Parsing.{EndsInEnd, IsTree, IsFault, seen}
 use Rattle.cx_unit_parser.specs.Parts.{Placed, PlacedAt}
 use Rattle.cx_unit_parser.proofs.Ends.{has_token}
 use Rattle.cx_unit_parser.proofs.Faults.{one_place, one_token, same_rule}
@@ -39,19 +38,24 @@ told tokens rule left (t ∷ ts) e f r = let size : left ≡ length (t ∷ ts) =
   },
 )
 
-placed_at : (tokens : List Token) (rule : Rule) (left : ℕ) (rest : List Lexeme) (said : ParseAnswer) → EndsInEnd tokens → (f : FaultAt symbols.unit 512 (seen tokens) rule left) → f.rest ≡ rest → PlacedAt rest rule said → Explains tokens said
+placed_at : (tokens : List Token) (rule : Rule) (left : ℕ) (rest : List Lexeme) (fault : Diag) → EndsInEnd tokens → (f : FaultAt symbols.unit 512 (seen tokens) rule left) → f.rest ≡ rest → PlacedAt rest rule fault → IsFault tokens fault
 unfolding told
-placed_at tokens rule left [] said e f r p = let n = has_token tokens rule left e f in let z = ap length r in let size = f.size in absurd (omega arith)
-placed_at tokens rule left (t ∷ ts) said e f r p = subst (Explains tokens) (sym p) (told tokens rule left (t ∷ ts) e f r).1
+placed_at tokens rule left [] fault e f r p = absurd p
+placed_at tokens rule left (t ∷ ts) fault e f r p = subst (IsFault tokens) (sym p) (told tokens rule left (t ∷ ts) e f r).1
 
 behind_is : (before rest : List Lexeme) (left : ℕ) → length rest ≡ left → drop (length (before ++ rest) - left) (before ++ rest) ≡ rest
 behind_is before rest left size = let n = length-append before rest in let at : length (before ++ rest) - left ≡ length before = omega arith in ap (λ k. drop k (before ++ rest)) at ∙ drop-append_seam before rest
 
+-- from the fault on there are at least one token and at most all
+pub in_range : (tokens : List Token) (lexemes : List Lexeme) (rule : Rule) (left : ℕ) → EndsInEnd tokens → lexemes ≡ seen tokens → FaultAt symbols.unit 512 lexemes rule left → (1 ≤ left) × (left ≤ length lexemes)
+in_range tokens lexemes rule left e is f = let P : List Lexeme → Type 0 = λ l. FaultAt symbols.unit 512 l rule left in
+    (has_token tokens rule left e (subst P is f), let a = ap length f.cut in let c = length-append f.before f.rest in let p = f.size in omega arith)
+
 -- what the fault of the parser is told as
-pub explained : (tokens : List Token) (lexemes : List Lexeme) (rule : Rule) (left : ℕ) (said : ParseAnswer) → EndsInEnd tokens → lexemes ≡ seen tokens → FaultAt symbols.unit 512 lexemes rule left → Placed lexemes rule left said → Explains tokens said
-explained tokens lexemes rule left said e is f p = let P : List Lexeme → Type 0 = λ l. FaultAt symbols.unit 512 l rule left in let g = subst P is f in
-    let Q : List Lexeme → Type 0 = λ l. PlacedAt (drop (length l - left) l) rule said in let q : PlacedAt (drop (length (g.before ++ g.rest) - left) (g.before ++ g.rest)) rule said = subst Q (is ∙ g.cut) p in
-    let R : List Lexeme → Type 0 = λ l. PlacedAt l rule said in placed_at tokens rule left g.rest said e g refl (subst R (behind_is g.before g.rest left g.size) q)
+pub explained : (tokens : List Token) (lexemes : List Lexeme) (rule : Rule) (left : ℕ) (fault : Diag) → EndsInEnd tokens → lexemes ≡ seen tokens → FaultAt symbols.unit 512 lexemes rule left → Placed lexemes rule left fault → IsFault tokens fault
+explained tokens lexemes rule left fault e is f p = let P : List Lexeme → Type 0 = λ l. FaultAt symbols.unit 512 l rule left in let g = subst P is f in
+    let Q : List Lexeme → Type 0 = λ l. PlacedAt (drop (length l - left) l) rule fault in let q : PlacedAt (drop (length (g.before ++ g.rest) - left) (g.before ++ g.rest)) rule fault = subst Q (is ∙ g.cut) p in
+    let R : List Lexeme → Type 0 = λ l. PlacedAt l rule fault in placed_at tokens rule left g.rest fault e g refl (subst R (behind_is g.before g.rest left g.size) q)
 
 of_fault : (tokens : List Token) (rule : Rule) (left : ℕ) → EndsInEnd tokens → FaultAt symbols.unit 512 (seen tokens) rule left → ((tree : Tree) × IsTree tokens tree) ⊎ ((d : Diag) × IsFault tokens d)
 of_fault tokens rule left e f = inr (told tokens rule left f.rest e f refl)

@@ -1,6 +1,6 @@
 //! Parses a unit's tokens.
 
-ghost use Rattle.std.specs.Prelude.{◌≡◌, ◌≤◌, length, IfOk, IfErr, map};
+ghost use Rattle.std.specs.Prelude.{◌≡◌, ◌≤◌, length, IfOk, IfErr};
 ghost use Rattle.cx_syntax.specs.declared.lexeme.Lexeme as lexemes;
 ghost use Rattle.cx_unit_parser.specs.Parsing.{EndsInEnd, Explains, IsTree, seen};
 ghost use Rattle.cx_unit_parser.specs.Parts.{Placed};
@@ -43,16 +43,15 @@ fn seen(alloc: Global, tokens: &List<Token>) -> Result<List<Lexeme>, Memory>
 }
 
 // The fault at the token from which on there are so many.
-fn placed(alloc: Global, lexemes: &[Lexeme], rule: Rule, left: usize) -> ParseAnswer
+fn placed(alloc: Global, lexemes: &[Lexeme], rule: Rule, left: usize) -> Diag
+    requires range { (1 ≤ left) × (left ≤ length lexemes.now) }
     ensures { Placed lexemes.now rule left result }
 {
-    match lexemes.get(lexemes.len().saturating_sub(left)) {
-        Some(lexeme) => ParseAnswer::Fault(Diag {
-            span: lexeme.span,
-            rule,
-            frames: List::new(alloc),
-        }),
-        None => ParseAnswer::Memory,
+    let lexeme = &lexemes[lexemes.len() - left];
+    Diag {
+        span: lexeme.span,
+        rule,
+        frames: List::new(alloc),
     }
 }
 
@@ -66,7 +65,9 @@ pub fn parse_unit(alloc: Global, tokens: &List<Token>) -> Result<Unit, ParseAnsw
     let lexemes = seen.as_slice();
     match parse(alloc, lexemes) {
         Ok(unit) => Ok(unit),
-        Err(ParseStop::Fault(rule, left)) => Err(placed(alloc, lexemes, rule, left)),
+        Err(ParseStop::Fault(rule, left)) => {
+            Err(ParseAnswer::Fault(placed(alloc, lexemes, rule, left)))
+        }
         Err(ParseStop::Memory) => Err(ParseAnswer::Memory),
     }
 }

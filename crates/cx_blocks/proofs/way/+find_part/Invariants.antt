@@ -1,4 +1,0 @@
-use Rattle.cx_blocks.proofs.way.+find_part.Given as goal
-
-abbrev pub decreases-find_part : goal.decreases-find_part
-decreases-find_part l = l.node

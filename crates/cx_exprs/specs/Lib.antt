@@ -1,0 +1,10 @@
+pub mod Chains
+pub mod Desks
+pub mod Expressions
+pub mod Forms
+pub mod Helpers
+pub mod Operators
+pub mod Parts
+pub mod Sequences
+pub mod TypeWords
+pub mod Typing

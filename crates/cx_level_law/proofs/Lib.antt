@@ -1,0 +1,10 @@
+pub mod Counted
+pub mod ExprNodes
+pub mod Exprs
+pub mod Parts
+pub mod Vars
+pub mod StmtNodes
+pub mod Stmts
+pub mod DeclNodes
+pub mod Decls
+pub mod Units

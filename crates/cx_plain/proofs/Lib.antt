@@ -1,0 +1,4 @@
+pub mod Cases
+pub mod DeclarationForms
+pub mod ExpressionForms
+pub mod SpanForms

@@ -1,0 +1,4 @@
+pub mod Pointers
+pub mod Lives
+pub mod Walks
+pub mod Standings

@@ -1,0 +1,4 @@
+pub mod Nodes
+pub mod Kept
+pub mod Loops
+pub mod Telling

@@ -1,0 +1,9 @@
+pub mod Programs
+pub mod Trees
+pub mod Shown
+pub mod Well
+pub mod Fitting
+pub mod Meaning
+pub mod Judging
+pub mod Bodies
+pub mod Texts
