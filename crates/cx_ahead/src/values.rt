@@ -6,7 +6,7 @@ ghost use Rattle.cx_syntax.specs.Values.{binary_by, modifier_by, overloaded_by, 
 use crate::sets::{AnyModifier, SingleOperator};
 use cx_base::IntType;
 use cx_grammar::{Pick, Test};
-use cx_ints::Int;
+use cx_ints::Literal;
 use cx_syntax::{Class, Lexeme};
 use cx_token_defs::TokenKind;
 use cx_tree::{
@@ -358,15 +358,12 @@ impl Pick<Lexeme> for LiteralIn {
     }
 }
 
-fn number(kind: &TokenKind) -> Int
+fn number(kind: &TokenKind) -> Literal
     ensures { result ≡ number_of kind.now }
 {
     match *kind {
         TokenKind::Number(value) => value,
-        _ => Int {
-            ty: IntType::Int,
-            value: 0,
-        },
+        _ => Literal::new(IntType::Int, 0),
     }
 }
 

@@ -3,7 +3,7 @@ use Rattle.std.proofs.Common.{◌≡◌, ℕ, zero, suc, ◌≤◌, Bool, true, 
 use Rattle.cx_base.specs.declared.rule.Rule.TheVariants.{Syntax}
 use Rattle.cx_grammar.specs.Language.{passing}
 use Rattle.cx_grammar.specs.Exact.{Outcome, done, stop}
-use Rattle.cx_grammar.specs.Reading.{Reader, made, refuse, sees, sees_two, token, token_by, many_from, many_when, last_name, taken, ◌>>=◌, ◌<$>◌, ◌⊳◌}
+use Rattle.cx_grammar.specs.Reading.{Reader, made, refuse, sees, sees_two, token, token_by, many_from, many_when, last_name, taken, ◌>>=◌, ◌<$>◌}
 use Rattle.cx_grammar.specs.Reads.{tail_of}
 use Rattle.cx_grammar.proofs.Names.{on_name, turn_on}
 use Rattle.cx_tree.specs.declared.names.Ident.{Ident}

@@ -2,7 +2,7 @@
 use Rattle.std.proofs.Common.{◌≡◌, ℕ, zero, suc, ◌≤◌, Bool, true, false, not, ◌&&◌, if◌then◌else◌, List, [], ◌∷◌, ◌++◌, length, Option, Some, None, refl, sym, ◌∙◌, ap, arith, length-append}
 use Rattle.cx_base.specs.declared.rule.Rule.TheVariants.{Syntax}
 use Rattle.cx_grammar.specs.Exact.{Outcome, done, stop}
-use Rattle.cx_grammar.specs.Reading.{made, taken, refuse, sees, token_by, many_when, ◌>>=◌, ◌<$>◌, ◌⊳◌}
+use Rattle.cx_grammar.specs.Reading.{made, taken, refuse, sees, token_by, many_when, ◌>>=◌, ◌<$>◌}
 use Rattle.cx_grammar.specs.Reads.{tail_of}
 use Rattle.cx_grammar.proofs.Heads.{Sub}
 use Rattle.cx_grammar.proofs.Names.{on_name}

@@ -85,41 +85,40 @@ fn has_text(class: Class) -> bool
     )
 }
 
-fn text_kept(alloc: Global, class: Class, text: &Text) -> Result<Text, Memory>
-    ensures { IfOk result (λ kept. kept ≡ text_kept class text.now) }
+fn text_kept(alloc: Global, class: Class, text: Text) -> Text
+    ensures { result ≡ text_kept class text }
 {
     if has_text(class) {
-        text.copy()
+        text
     } else {
-        Ok(Text::new(alloc))
+        Text::new(alloc)
     }
 }
 
 /// A token as the grammar sees it.
-pub fn lexeme_of<N: TypeNames>(alloc: Global, names: &N, token: &Token) -> Result<Lexeme, Memory>
-    ensures { IfOk result (λ lexeme. lexeme ≡ lexeme_of (N.holds names.now) token.now) }
+pub fn lexeme_of<N: TypeNames>(alloc: Global, names: &N, token: Token) -> Lexeme
+    ensures { result ≡ lexeme_of (N.holds names.now) token }
 {
-    let class = class_of(names, token);
-    let text = text_kept(alloc, class, &token.text)?;
-    Ok(Lexeme {
+    let class = class_of(names, &token);
+    Lexeme {
         class,
         kind: token.kind,
         span: token.span,
-        text,
-    })
+        text: text_kept(alloc, class, token.text),
+    }
 }
 
 /// The tokens as the grammar sees them.
 pub fn lexemes<N: TypeNames>(
     alloc: Global,
     names: &N,
-    tokens: &List<Token>,
+    tokens: List<Token>,
 ) -> Result<List<Lexeme>, Memory>
-    ensures { IfOk result (λ found. found ≡ lexemes_of (N.holds names.now) tokens.now) }
+    ensures { IfOk result (λ found. found ≡ lexemes_of (N.holds names.now) tokens) }
 {
     let mut found = List::new(alloc);
-    for token in tokens.as_slice() {
-        found.push(lexeme_of(alloc, names, token)?)?;
+    for token in tokens.into_vec() {
+        found.push(lexeme_of(alloc, names, token))?;
     }
     Ok(found)
 }

@@ -2,7 +2,7 @@
 #![tactic(auto)]
 
 use cx_base::{Span, Text};
-use cx_ints::Int;
+use cx_ints::Literal;
 
 /// What kind of token it is.
 #[derive(Clone, Copy, Debug, PartialEq, Eq)]
@@ -12,7 +12,7 @@ pub enum TokenKind {
     /// An identifier ([lex.name]).
     Ident,
     /// An integer literal ([lex.icon]).
-    Number(Int),
+    Number(Literal),
     /// A character literal, as a value of `char` ([lex.ccon]).
     Char(i8),
     /// A string literal ([lex.string]).

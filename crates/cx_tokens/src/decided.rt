@@ -8,20 +8,20 @@ use crate::bytes::{byte_at, rest_from};
 use crate::scan::{Stop, place_of};
 use crate::shapes::Shape;
 
-fn size_of(shape: Shape) -> usize
-    ensures { result ≡ shape_size shape }
+fn size_of(shape: &Shape) -> usize
+    ensures { result ≡ shape_size shape.now }
 {
     match shape {
-        Shape::White(size) => size,
-        Shape::Token(size, _) => size,
-        Shape::Faulty(size, _) => size,
+        Shape::White(size) => *size,
+        Shape::Token(size, _) => *size,
+        Shape::Faulty(size, _) => *size,
     }
 }
 
 /// Whether the piece with which the rest begins, of this shape, stays the same whatever bytes come behind the rest.
 #[tactic(auto, using(crate::proofs::Sizes::size_is))]
-pub fn is_decided(opens: bool, rest: &[u8], shape: Shape) -> bool
-    requires { shape ≡ shape_of (found_at opens rest.now) }
+pub fn is_decided(opens: bool, rest: &[u8], shape: &Shape) -> bool
+    requires { shape.now ≡ shape_of (found_at opens rest.now) }
     ensures { result ≡ is_decided opens rest.now }
 {
     let size = if opens && byte_at(rest, 0) == b'#' {

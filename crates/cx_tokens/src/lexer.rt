@@ -95,7 +95,7 @@ pub fn advance(
     let mut here = start;
     let mut left = front;
     let mut shape = found_at(here.opens, left);
-    'pieces: while is_decided(here.opens, left, shape) {
+    'pieces: while is_decided(here.opens, left, &shape) {
         match over(alloc, tokens, left, here, shape) {
             Ok(next) => {
                 left = rest_from(left, next.at - here.at);

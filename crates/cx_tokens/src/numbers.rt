@@ -9,7 +9,7 @@ use crate::bytes::{byte_at, front_of, is_digit, is_hex, is_name_byte, rest_from}
 use crate::scan::{Stop, place_of};
 use crate::shapes::{Shape, broken};
 use cx_base::{IntType, Rule};
-use cx_ints::{Int, Suffix, literal_type};
+use cx_ints::{Literal, Suffix, literal_type};
 
 pub fn begins_number(rest: &[u8]) -> bool
     ensures { result ≡ begins_number rest.now }
@@ -236,13 +236,7 @@ fn typed(size: usize, value: u64, ty: Option<IntType>) -> Shape
     ensures { result ≡ shape_of (typed size value ty) }
 {
     match ty {
-        Some(ty) => Shape::Token(
-            size,
-            TokenKind::Number(Int {
-                ty,
-                value: i128::from(value),
-            }),
-        ),
+        Some(ty) => Shape::Token(size, TokenKind::Number(Literal::new(ty, value))),
         None => broken(size, Rule::NumberRange),
     }
 }

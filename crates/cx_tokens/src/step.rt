@@ -25,8 +25,8 @@ pub struct Here {
     pub opens: bool,
 }
 
-fn text_of(alloc: Global, kind: TokenKind, spelling: &[u8]) -> Result<Text, Memory>
-    ensures { IfOk result (λ text. text ≡ text_of kind spelling.now) }
+fn text_of(alloc: Global, kind: &TokenKind, spelling: &[u8]) -> Result<Text, Memory>
+    ensures { IfOk result (λ text. text ≡ text_of kind.now spelling.now) }
 {
     match kind {
         TokenKind::Str => string_bytes(alloc, spelling),
@@ -62,7 +62,7 @@ fn token(
 ) -> Result<(), Memory>
     ensures { OnOk result (tokens.new ≡ tokens.old ++ record { kind = kind; span = span; text = text_of kind spelling.now } ∷ []) }
 {
-    let text = text_of(alloc, kind, spelling)?;
+    let text = text_of(alloc, &kind, spelling)?;
     tokens.push(Token { kind, span, text })
 }
 

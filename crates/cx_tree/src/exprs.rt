@@ -4,7 +4,7 @@ use crate::names::{DestructorName, FunctionName, TypeName};
 use crate::operators::{AssignOp, BinaryOp, PrefixOp};
 use crate::specifiers::{Ptrs, SimpleType, Specs, Star};
 use cx_base::{List, Span, Text};
-use cx_ints::Int;
+use cx_ints::Literal;
 use sqlite_items::Boxed;
 
 /// An expression.
@@ -21,7 +21,7 @@ pub struct Expr {
 #[derive(Drop)]
 pub enum ExprKind {
     /// [lex.icon]
-    Number(Int),
+    Number(Literal),
     /// [lex.ccon]
     Char(i8),
     /// One string in pieces ([lex.string]).

@@ -10,7 +10,7 @@ mod specifiers;
 mod stmts;
 
 pub use cx_base::{Span, Text};
-pub use cx_ints::Int;
+pub use cx_ints::Literal;
 pub use decls::{
     Access, Alias, Assert, Base, Body, Class, ClassBody, Constructor, ConstructorBody, Decl,
     DeclKind, Destructor, Entity, EntityKind, Enumeration, EnumerationKind, Enumerator, Function,

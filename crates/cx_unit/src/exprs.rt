@@ -75,7 +75,7 @@ pub fn found_in(values: &Names<i32>, expr: &Expr) -> Found
     ensures { result ≡ spec.found_in values.now expr.now }
 {
     match &expr.kind {
-        ExprKind::Number(int) => literal(*int, expr.extent),
+        ExprKind::Number(int) => literal(int.int(), expr.extent),
         ExprKind::Name(name) => named(values, name.get(), expr.extent),
         ExprKind::Paren(inner) => found_in(values, inner.get()),
         // operations of one level, from left to right ([expr.add], [expr.mul])

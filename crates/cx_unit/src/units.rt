@@ -25,10 +25,10 @@ fn stopped_by(answer: ParseAnswer) -> Result<Verdict, Memory>
 
 /// The one verdict under these limits of the tokens of a unit, the last of which is that of the source's end: its first
 /// token that no unit goes on with, else the first rule that a declaration breaks, else a line for each constant.
-pub fn run_unit(alloc: Global, tokens: &List<Token>, limits: Limits) -> Result<Verdict, Memory>
-    requires end { EndsInEnd tokens.now }
+pub fn run_unit(alloc: Global, tokens: List<Token>, limits: Limits) -> Result<Verdict, Memory>
+    requires end { EndsInEnd tokens }
     requires allowed { limits_allowed limits ≡ true }
-    ensures { IfOk result (IsOnly (IsVerdictFrom limits tokens.now)) }
+    ensures { IfOk result (IsOnly (IsVerdictFrom limits tokens)) }
 {
     match parse_unit(alloc, tokens) {
         Ok(unit) => verdict_of(alloc, &unit, limits),
@@ -79,7 +79,7 @@ pub fn verdict_of_lexed(
     ensures { (bytes : Seq ℕ) → length bytes ≤ 4_194_304 → Answers bytes lexed → IfOk result (IsOnly (IsVerdict limits bytes)) }
 {
     match lexed {
-        Ok(tokens) => run_unit(alloc, &tokens, limits),
+        Ok(tokens) => run_unit(alloc, tokens, limits),
         Err(answer) => refused_by(answer),
     }
 }

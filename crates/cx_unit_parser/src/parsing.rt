@@ -35,10 +35,10 @@ impl From<Memory> for ParseAnswer {
 }
 
 // The tokens as the grammar sees them.
-fn seen(alloc: Global, tokens: &List<Token>) -> Result<List<Lexeme>, Memory>
-    ensures { IfOk result (λ lexemes. lexemes ≡ seen tokens.now) }
+fn seen(alloc: Global, tokens: List<Token>) -> Result<List<Lexeme>, Memory>
+    ensures { IfOk result (λ lexemes. lexemes ≡ seen tokens) }
 {
-    let names = type_names(alloc, tokens)?;
+    let names = type_names(alloc, &tokens)?;
     lexemes(alloc, &UnitNames { set: &names }, tokens)
 }
 
@@ -56,10 +56,10 @@ fn placed(alloc: Global, lexemes: &[Lexeme], rule: Rule, left: usize) -> Diag
 }
 
 /// The one tree of a unit's tokens, the last of which is that of the source's end ([gram], [basic.link]).
-pub fn parse_unit(alloc: Global, tokens: &List<Token>) -> Result<Unit, ParseAnswer>
-    requires { EndsInEnd tokens.now }
-    ensures tree { IfOk result (IsTree tokens.now) }
-    ensures fault { IfErr result (Explains tokens.now) }
+pub fn parse_unit(alloc: Global, tokens: List<Token>) -> Result<Unit, ParseAnswer>
+    requires { EndsInEnd tokens }
+    ensures tree { IfOk result (IsTree tokens) }
+    ensures fault { IfErr result (Explains tokens) }
 {
     let seen = seen(alloc, tokens)?;
     let lexemes = seen.as_slice();

@@ -1,6 +1,6 @@
 //! The tokens of whole sources.
 use cx_base::{IntType, Rule};
-use cx_ints::Int;
+use cx_ints::Literal;
 use cx_token_defs::{Token, TokenKind};
 use cx_tokens::{LexAnswer, lex, tokens_or_fault};
 use std::alloc::{AllocGlobal, Global};
@@ -25,8 +25,8 @@ fn shown(kind: TokenKind, text: &[u8], start: (u32, u32), end: (u32, u32)) -> Ro
     }
 }
 
-fn number(ty: IntType, value: i128) -> TokenKind {
-    TokenKind::Number(Int { ty, value })
+fn number(ty: IntType, value: u64) -> TokenKind {
+    TokenKind::Number(Literal::new(ty, value))
 }
 
 fn is_row(token: &Token, row: &Row<'_>) -> bool {
