@@ -1,0 +1,3 @@
+pub mod Specifiers
+pub mod Variables
+pub mod Walk
