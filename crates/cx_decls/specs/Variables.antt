@@ -1,32 +1,22 @@
 -- Variables of namespaces ([dcl.pre], [dcl.constexpr], [dcl.init]).
-use Rattle.std.specs.Prelude.{ℕ, Bool, true, false, not, ◌||◌, List, [], ◌∷◌, ◌++◌, length, Option, None, Some, Result, Ok, Err, is_none}
-use Rattle.cx_base.specs.declared.diag.Mark.{Mark}
+use Rattle.std.specs.Prelude.{Bool, true, false, not, ◌||◌, List, [], ◌∷◌, Option, None, Some, is_none}
 use Rattle.cx_base.specs.declared.diag.Span.{Span}
 use Rattle.cx_base.specs.declared.int_type.IntType.{IntType}
 use Rattle.cx_base.specs.declared.rule.Rule.TheVariants as rule
 use Rattle.cx_plain.specs.Declarations.{Declarator, Initializer}
 use Rattle.cx_plain.specs.Spans.{scalar_span}
-use Rattle.cx_scopes.specs.declared.kinds.Entity.TheVariants as entity
-use Rattle.cx_scopes.specs.declared.kinds.LookAnswer.{LookAnswer}
-use Rattle.cx_scopes.specs.Scopes.{ScopeTables}
-use Rattle.cx_scopes.specs.Steps.{declared}
 use Rattle.cx_state.specs.declared.root.JudgeMode.TheVariants as mode
 use Rattle.cx_tree.specs.declared.names.Ident.{Ident}
 use Rattle.cx_tree.specs.declared.specifiers.Specs.{Specs}
 use Rattle.cx_type_defs.specs.declared.ids.VarId.{VarId}
-use Rattle.cx_type_defs.specs.Same.{Int, Const}
-use Rattle.cx_type_defs.specs.Tables.{changed_at}
 use Rattle.cx_typed.specs.declared.judge.Outcome.{Outcome}
 use Rattle.cx_typed.specs.declared.judge.Outcome.TheVariants as outcome
-use Rattle.cx_typed.specs.declared.judge.Value.{Value}
-use Rattle.cx_typed.specs.declared.lines.LineKind.{LineKind}
 use Rattle.cx_typed.specs.declared.lines.LineKind.TheVariants as line_kind
-use Rattle.cx_typed.specs.Texts.{value_text_of}
 use Rattle.cx_typed.specs.Trees.{Var, OfVariable}
 use Rattle.cx_exprs.specs.declared.words.Named.{Named}
 use Rattle.cx_exprs.specs.declared.words.Named.TheVariants as named
+use Rattle.cx_exprs.specs.Declaring.{const_var, initialized, introduced, with_line}
 use Rattle.cx_exprs.specs.Expressions.{typed_init}
-use Rattle.cx_exprs.specs.Parts.{Tree}
 use Rattle.cx_exprs.specs.TypeWords.{bounds_in, int_in, is_decorated, named_type}
 use Rattle.cx_exprs.specs.Typing.{Alternative, Typed, Good, Fault, World, and_then, broken, judging, node}
 use Rattle.cx_decls.specs.declared.specifiers.Specifiers.{Specifiers}
@@ -90,22 +80,9 @@ declares n s = record {
 -- ---- a declarator, whose name is visible behind it ([basic.scope.pdecl])
 
 abbrev pub named_var : Declared → Ident → Var
-named_var d n = record { name = n.text; ty = Const (Int d.ty); at = n.span; is_constexpr = d.is_constexpr; init = None }
-
-abbrev pub next_variable : World → VarId
-next_variable w = record { 0 = length w.variables }
-
-abbrev pub visible : Ident → Var → World → Result ScopeTables LookAnswer → Typed VarId
-visible n v w (Ok names) = Good (next_variable w) (record w { names = names; variables = w.variables ++ v ∷ [] })
-visible n v w (Err e) = broken rule.Redeclared n.span
-
-abbrev pub introduced : Declared → Ident → World → Typed VarId
-introduced d n w = visible n (named_var d n) w (declared w.names n.text (entity.Variable (next_variable w)))
+named_var d n = const_var d.ty d.is_constexpr n.text n.span
 
 -- ---- the initializer, and its judgement ([dcl.init], [expr.const])
-
-abbrev pub initialized : VarId → Tree → World → World
-initialized v x w = record w { variables = changed_at (λ (d : Var). record d { init = Some x }) w.variables v.0 }
 
 abbrev pub judged_init : VarId → Span → World → Typed Outcome
 judged_init v at w = judging mode.Keep (record { body = OfVariable v; span = at }) w
@@ -113,12 +90,9 @@ judged_init v at w = judging mode.Keep (record { body = OfVariable v; span = at 
 -- a variable and its outcome
 abbrev pub variable : Declared → Ident → Initializer → World → Typed Outcome
 variable d n i w =
-    and_then (introduced d n w) (λ v u. and_then (typed_init d.ty i u) (λ x t. judged_init v (scalar_span i) (initialized v x t)))
+    and_then (introduced (named_var d n) w) (λ v u. and_then (typed_init d.ty i u) (λ x t. judged_init v (scalar_span i) (initialized v x t)))
 
 -- ---- what comes of an outcome
-
-abbrev pub with_line : LineKind → Mark → List ℕ → Value → World → World
-with_line k start name x w = record w { lines = w.lines ++ record { start = start; kind = k; name = name; value = x; text = value_text_of x } ∷ [] }
 
 -- a constexpr variable adds a line ([dcl.constexpr])
 abbrev pub required : Ident → Outcome → World → Typed (Unit {0})

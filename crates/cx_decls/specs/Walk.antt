@@ -19,10 +19,11 @@ use Rattle.cx_typed.specs.declared.lines.LineKind.TheVariants as line_kind
 use Rattle.cx_typed.specs.declared.lines.Verdict.{Verdict}
 use Rattle.cx_typed.specs.declared.lines.Verdict.TheVariants.{Accepted, Refused}
 use Rattle.cx_typed.specs.Trees.{OfExpr}
+use Rattle.cx_exprs.specs.Declaring.{with_line}
 use Rattle.cx_exprs.specs.Expressions.{typed}
 use Rattle.cx_exprs.specs.Parts.{as_value}
 use Rattle.cx_exprs.specs.Typing.{Alternative, Typed, Good, Fault, World, and_then, broken, judging, node}
-use Rattle.cx_decls.specs.Variables.{variables, with_line}
+use Rattle.cx_decls.specs.Variables.{variables}
 
 -- ---- static_assert ([dcl.pre])
 

@@ -6,3 +6,4 @@ pub mod MadeNodes
 pub mod ObjectForms
 pub mod Steps
 pub mod TypedCases
+pub mod Desked

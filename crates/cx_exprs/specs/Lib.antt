@@ -8,3 +8,4 @@ pub mod Parts
 pub mod Sequences
 pub mod TypeWords
 pub mod Typing
+pub mod Declaring

@@ -25,13 +25,13 @@ use std::marker::Model;
 /// A program, its scopes and its constants as far as they are typed, with the judge of its constants.
 #[derive(Drop)]
 pub struct Elab<J: Judge> {
-    alloc: Global,
-    program: Program,
-    scopes: Scopes,
-    judge: J,
-    lines: List<Line>,
-    ended: Option<ElabAnswer>,
-    ints: Ints,
+    pub(crate) alloc: Global,
+    pub(crate) program: Program,
+    pub(crate) scopes: Scopes,
+    pub(crate) judge: J,
+    pub(crate) lines: List<Line>,
+    pub(crate) ended: Option<ElabAnswer>,
+    pub(crate) ints: Ints,
 }
 
 impl<J: Judge> Model for Elab<J> {

@@ -3,6 +3,7 @@
 
 mod answer;
 mod chains;
+mod desk;
 mod elab;
 mod forms;
 mod ints;
