@@ -1,16 +1,18 @@
 -- The declarations of a unit, one after another, and its verdict ([dcl.dcl], [dcl.pre]).
-use Rattle.std.specs.Prelude.{ℕ, codes, Bool, List, [], ◌∷◌}
+use Rattle.std.specs.Prelude.{ℕ, codes, Bool, List, [], ◌∷◌, map}
 use Rattle.cx_base.specs.declared.diag.Span.{Span}
 use Rattle.cx_base.specs.declared.int_type.IntType.TheVariants as type
 use Rattle.cx_base.specs.declared.limits.Limits.{Limits}
 use Rattle.cx_base.specs.declared.rule.Rule.TheVariants as rule
 use Rattle.cx_ints.specs.Conversions.{is_zero}
+use Rattle.cx_plain.specs.DeclarationViews as plain
 use Rattle.cx_plain.specs.Declarations as d
 use Rattle.cx_plain.specs.Declarations.{Assertion, Declaration}
 use Rattle.cx_plain.specs.Expressions.{Expression}
 use Rattle.cx_plain.specs.Spans.{span_of}
 use Rattle.cx_scopes.specs.Scopes.{no_scopes}
 use Rattle.cx_state.specs.declared.root.JudgeMode.TheVariants as mode
+use Rattle.cx_tree.specs.declared.decls.Unit.{Unit as Tree}
 use Rattle.cx_typed.specs.declared.judge.Outcome.{Outcome}
 use Rattle.cx_typed.specs.declared.judge.Outcome.TheVariants as outcome
 use Rattle.cx_typed.specs.declared.judge.Value.{Value}
@@ -74,3 +76,7 @@ told_by (Fault v) = Refused v
 
 abbrev pub verdict : Limits → List Declaration → Verdict
 verdict limits ds = told_by (walked ds (first_world limits))
+
+-- what the tree of a unit gives
+abbrev pub verdict_of : Limits → Tree → Verdict
+verdict_of limits tree = verdict limits (map plain.declaration tree.decls)
