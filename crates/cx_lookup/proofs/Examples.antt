@@ -1,26 +1,22 @@
 -- The definitions at work: the pairs of integer types by rows that are written from [conv.prom] and [conv.integral], and
 -- calls from [over.match].
-use Rattle.std.proofs.Common.{◌≡◌, ℕ, zero, suc, refl, Bool, true, false, List, [], ◌∷◌, Option, None, Some, map, pos, ℤ}
+use Rattle.std.proofs.Common.{◌≡◌, ℕ, zero, suc, refl, true, false, List, [], ◌∷◌, None, Some, map}
 use Rattle.cx_base.specs.declared.int_type.IntType.{IntType}
 use Rattle.cx_base.specs.declared.int_type.IntType.TheVariants as type
 use Rattle.cx_ints.specs.Ranges.{width}
 use Rattle.cx_ints.specs.Conversions.{promote}
 use Rattle.cx_type_defs.specs.declared.ids.ClassId.{ClassId}
-use Rattle.cx_type_defs.specs.declared.ids.EnumId.{EnumId}
-use Rattle.cx_type_defs.specs.declared.ids.FuncId.{FuncId}
 use Rattle.cx_type_defs.specs.declared.decl.ClassDecl.{ClassDecl}
 use Rattle.cx_type_defs.specs.declared.decl.ClassKey.TheVariants as key
 use Rattle.cx_type_defs.specs.declared.decl.ClassFlags.{ClassFlags}
-use Rattle.cx_type_defs.specs.declared.decl.EnumDecl.{EnumDecl}
-use Rattle.cx_type_defs.specs.Same.{Form, Void, Nullptr, Int, Enum, Pointer, Reference, Array, Class, Const}
+use Rattle.cx_type_defs.specs.Same.{Form, Void, Int, Enum, Pointer, Reference, Array, Class, Const}
 use Rattle.cx_type_defs.specs.Tables.{Tables, no_types}
 use Rattle.cx_type_defs.specs.Questions.{most_levels}
 use Rattle.cx_derived.specs.Ways.{ways_to, ways_within}
 use Rattle.cx_lookup.specs.declared.rank.RankKind.{RankKind}
 use Rattle.cx_lookup.specs.declared.rank.RankKind.TheVariants as kind
-use Rattle.cx_lookup.specs.Ranks.{Argument, World, Conversion, conversion, int_kind}
-use Rattle.cx_lookup.specs.Better.{Converted, better}
-use Rattle.cx_lookup.specs.Choice.{First, Parameter, Object, Ignored, Signature, Choice, Chosen, NoMatch, Ambiguous, choice}
+use Rattle.cx_lookup.specs.Ranks.{Argument, World, conversion, int_kind}
+use Rattle.cx_lookup.specs.Choice.{Parameter, Object, Ignored, Signature, Choice, Chosen, NoMatch, Ambiguous, choice}
 
 -- ---- integer types
 

@@ -1,11 +1,11 @@
 -- When one implicit conversion of an argument is better than another ([over.ics.rank]).
-use Rattle.std.specs.Prelude.{ℕ, ◌==◌, nat_lt, Bool, true, false, not, ◌&&◌, ◌||◌, Option, None, Some, if◌then◌else◌}
+use Rattle.std.specs.Prelude.{ℕ, ◌==◌, nat_lt, Bool, true, false, not, ◌&&◌, ◌||◌}
 use Rattle.cx_base.specs.declared.int_type.IntType.TheVariants as type
 use Rattle.cx_type_defs.specs.declared.ids.ClassId.{ClassId}
-use Rattle.cx_type_defs.specs.Same.{Form, Void, Int, Pointer, Reference, Class, Const}
+use Rattle.cx_type_defs.specs.Same.{Form, Void, Int, Pointer, Reference, Class}
 use Rattle.cx_lookup.specs.declared.rank.RankKind.{RankKind}
 use Rattle.cx_lookup.specs.declared.rank.RankKind.TheVariants as kind
-use Rattle.cx_lookup.specs.Ranks.{Argument, Conversion, unqualified, decayed, takes_const}
+use Rattle.cx_lookup.specs.Ranks.{Conversion, unqualified, takes_const}
 
 -- a conversion to a type
 pub record Converted : Type 0 where

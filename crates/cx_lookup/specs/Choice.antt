@@ -1,9 +1,9 @@
 -- Which functions a call may choose, and which one it does ([over.match.viable], [over.match.best]).
-use Rattle.std.specs.Prelude.{◌≡◌, ℕ, zero, suc, ◌==◌, Bool, true, false, not, ◌&&◌, ◌||◌, List, [], ◌∷◌, Option, None, Some, option_map, option_and_then, if◌then◌else◌}
-use Rattle.std.specs.List.{AllByRecursion, find, list_any}
+use Rattle.std.specs.Prelude.{◌≡◌, ◌⊎◌, ℕ, zero, suc, ◌==◌, Bool, true, false, not, ◌&&◌, ◌||◌, List, [], ◌∷◌, Option, None, Some, option_map, option_and_then}
+use Rattle.std.specs.List.{find, list_any}
 use Rattle.cx_type_defs.specs.declared.ids.ClassId.{ClassId}
 use Rattle.cx_type_defs.specs.declared.ids.FuncId.{FuncId}
-use Rattle.cx_type_defs.specs.Same.{Form, Reference, Class, Const}
+use Rattle.cx_type_defs.specs.Same.{Form, Reference}
 use Rattle.cx_lookup.specs.Ranks.{Argument, Conversion, World, conversion, decayed, not_by_user, derived}
 use Rattle.cx_lookup.specs.Better.{Converted, better}
 
@@ -80,10 +80,14 @@ better_once d _ _ _ = false
 abbrev pub is_better : (ClassId → ClassId → Bool) → List Argument → Conversions → Conversions → Bool
 is_better d args cs es = not (better_once d args es cs) && better_once d args cs es
 
--- among all, better than every other one
+abbrev pub Among : Viable → List Viable → Type 0
+Among v [] = ⊥
+Among v (x ∷ xs) = (v ≡ x) ⊎ Among v xs
+
+-- one of all, better than every other one
 pub record IsBest (d : ClassId → ClassId → Bool) (args : List Argument) (vs : List Viable) (v : Viable) : Type 0 where
-  pub viable : list_any (λ o. o.id.0 == v.id.0) vs ≡ true
-  pub beats : AllByRecursion (λ (o : Viable). (o.id.0 == v.id.0 ≡ false) → is_better d args v.by o.by ≡ true) vs
+  pub viable : Among v vs
+  pub beats : (o : Viable) → Among o vs → (o.id.0 == v.id.0) ≡ false → is_better d args v.by o.by ≡ true
 
 -- the function that is called; None where none is best, also where none is viable
 abbrev pub beats : (ClassId → ClassId → Bool) → List Argument → Viable → Viable → Bool

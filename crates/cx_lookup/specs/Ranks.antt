@@ -1,14 +1,13 @@
 -- Which implicit conversion leads from an argument to a parameter's type, and its rank ([over.best.ics], [conv],
 -- [dcl.init.ref]).
-use Rattle.std.specs.Prelude.{ℕ, ◌==◌, nat_lt, Bool, true, false, not, ◌&&◌, ◌||◌, List, [], ◌∷◌, Option, None, Some, is_some, slice_get, option_map, option_and_then, if◌then◌else◌}
+use Rattle.std.specs.Prelude.{ℕ, ◌==◌, nat_lt, Bool, true, false, not, ◌&&◌, ◌||◌, List, Option, None, Some, is_some, slice_get, option_map, option_and_then, if◌then◌else◌}
 use Rattle.std.specs.List.{list_any}
 use Rattle.cx_base.specs.declared.int_type.IntType.{IntType}
 use Rattle.cx_base.specs.declared.int_type.IntType.TheVariants as type
 use Rattle.cx_ints.specs.Conversions.{promote}
 use Rattle.cx_type_defs.specs.declared.ids.ClassId.{ClassId}
-use Rattle.cx_type_defs.specs.declared.ids.EnumId.{EnumId}
 use Rattle.cx_type_defs.specs.declared.decl.EnumDecl.{EnumDecl}
-use Rattle.cx_type_defs.specs.Same.{Form, Void, Nullptr, Int, Enum, Pointer, Reference, Array, Class, Const, Unknown}
+use Rattle.cx_type_defs.specs.Same.{Form, Void, Nullptr, Int, Enum, Pointer, Reference, Array, Class, Const}
 use Rattle.cx_type_defs.specs.Tables.{Tables, under_of}
 use Rattle.cx_derived.specs.Ways.{ways_to}
 use Rattle.cx_lookup.specs.declared.rank.RankKind.{RankKind}
@@ -75,7 +74,7 @@ qualifies above here (Const f) (Const g) = qualifies above true f g
 qualifies above here (Const f) g = false
 qualifies above here f (Const g) = above && qualifies above true f g
 qualifies above here (Pointer f) (Pointer g) = qualifies (above && here) false f g
-qualifies above here (Array f n) (Array g m) = (n == m) && qualifies above here f g
+qualifies above here (Array f n) (Array g m) = (n == m) && qualifies above false f g
 qualifies above here Void Void = true
 qualifies above here Nullptr Nullptr = true
 qualifies above here (Int a) (Int b) = same_int a b
