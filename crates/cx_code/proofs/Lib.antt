@@ -1,0 +1,3 @@
+mod Cases
+pub mod Outs
+pub mod Stable

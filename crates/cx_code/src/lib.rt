@@ -4,6 +4,7 @@
 
 mod code;
 mod instr;
+pub mod laws;
 mod way;
 
 pub use code::{CellKind, Code, Step};
