@@ -1,3 +1,4 @@
 mod Cases
+mod CasesRules
 pub mod Outs
 pub mod Stable
