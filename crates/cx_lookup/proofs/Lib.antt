@@ -1,2 +1,3 @@
 pub mod Strict
 mod Examples
+pub mod Best

@@ -1,5 +1,5 @@
 -- Which functions a call may choose, and which one it does ([over.match.viable], [over.match.best]).
-use Rattle.std.specs.Prelude.{◌≡◌, ◌⊎◌, ℕ, zero, suc, ◌==◌, Bool, true, false, not, ◌&&◌, ◌||◌, List, [], ◌∷◌, Option, None, Some, option_map, option_and_then}
+use Rattle.std.specs.Prelude.{◌≡◌, ◌⊎◌, ℕ, zero, suc, ◌==◌, Bool, true, false, not, ◌&&◌, ◌||◌, List, [], ◌∷◌, Option, None, Some, option_map, option_and_then, if◌then◌else◌}
 use Rattle.std.specs.List.{find, list_any}
 use Rattle.cx_type_defs.specs.declared.ids.ClassId.{ClassId}
 use Rattle.cx_type_defs.specs.declared.ids.FuncId.{FuncId}
@@ -80,7 +80,7 @@ better_once d _ _ _ = false
 abbrev pub is_better : (ClassId → ClassId → Bool) → List Argument → Conversions → Conversions → Bool
 is_better d args cs es = not (better_once d args es cs) && better_once d args cs es
 
-abbrev pub Among : Viable → List Viable → Type 0
+abbrev pub Among : {X : Type 0} → X → List X → Type 0
 Among v [] = ⊥
 Among v (x ∷ xs) = (v ≡ x) ⊎ Among v xs
 
@@ -112,3 +112,27 @@ choice_of d args (v ∷ vs) = of_best (best_of d args (v ∷ vs))
 
 abbrev pub choice : World → List Signature → List Argument → Choice
 choice w ss args = choice_of (derived w.types) args (viable w args ss)
+
+-- ---- lists as sets, and a walk over one
+
+-- the same ones, in whatever order
+pub record HaveTheSame {X : Type 0} (xs ys : List X) : Type 0 where
+  pub there : (x : X) → Among x xs → Among x ys
+  pub back : (x : X) → Among x ys → Among x xs
+
+-- numbers tell the functions apart
+abbrev pub AreApart : List Viable → Type 0
+AreApart vs = (v o : Viable) → Among v vs → Among o vs → (v.id.0 == o.id.0) ≡ true → v ≡ o
+
+-- keeps one, and goes to the next where it isn't better than that
+abbrev pub last_kept : (ClassId → ClassId → Bool) → List Argument → Viable → List Viable → Viable
+last_kept d args v [] = v
+last_kept d args v (o ∷ os) = last_kept d args (if is_better d args v.by o.by then v else o) os
+
+abbrev pub where_best : (ClassId → ClassId → Bool) → List Argument → List Viable → Viable → Option Viable
+where_best d args vs v = if list_any (λ o. not (beats d args v o)) vs then None else Some v
+
+-- the last one kept, where it is better than every other
+abbrev pub walked : (ClassId → ClassId → Bool) → List Argument → List Viable → Option Viable
+walked d args [] = None
+walked d args (v ∷ vs) = where_best d args (v ∷ vs) (last_kept d args v vs)

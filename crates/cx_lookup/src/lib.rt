@@ -4,5 +4,5 @@
 mod laws;
 mod rank;
 
-pub use laws::{better_is_strict, one_is_best};
+pub use laws::{a_walk_finds_the_best, better_is_strict, one_is_best, the_best_is_chosen};
 pub use rank::{RankKind, int_rank};
