@@ -15,3 +15,4 @@ pub mod Members
 pub mod Moving
 pub mod Comparing
 pub mod Showing
+pub mod News

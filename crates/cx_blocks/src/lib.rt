@@ -3,6 +3,7 @@
 
 mod block;
 mod blocks;
+mod fresh;
 mod make;
 mod show;
 mod store;

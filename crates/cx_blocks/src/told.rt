@@ -7,6 +7,7 @@ ghost use Rattle.cx_state.specs.Pointers.{is_literal_kind};
 ghost use Rattle.cx_state.specs.Steps as steps;
 ghost use Rattle.cx_blocks.specs.Bars.{barred};
 ghost use Rattle.cx_blocks.specs.Fits.{live_in, live_of};
+ghost use Rattle.cx_blocks.specs.Seen.{phase_of};
 
 use crate::block::Block;
 use cx_base::Rule;
@@ -53,6 +54,17 @@ impl Block {
             self.cells
         } else {
             0
+        }
+    }
+
+    /// The phase of its classes where its slots aren't kept.
+    pub(crate) fn phase(&self) -> Phase
+        ensures { result ≡ phase_of self.now }
+    {
+        if self.released {
+            Phase::Ended
+        } else {
+            Phase::Unborn
         }
     }
 
