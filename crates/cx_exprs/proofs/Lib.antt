@@ -7,3 +7,4 @@ pub mod ObjectForms
 pub mod Steps
 pub mod TypedCases
 pub mod Desked
+pub mod Walked

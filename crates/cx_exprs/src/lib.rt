@@ -5,6 +5,7 @@ mod answer;
 mod chains;
 mod desk;
 mod elab;
+mod exprs;
 mod forms;
 mod ints;
 mod names;
