@@ -1,3 +1,4 @@
 pub mod Strict
 mod Examples
 pub mod Best
+pub mod Rows

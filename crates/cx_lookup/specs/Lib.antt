@@ -1,3 +1,4 @@
 pub mod Ranks
 pub mod Better
 pub mod Choice
+pub mod Levels
