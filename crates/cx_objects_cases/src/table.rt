@@ -1,7 +1,8 @@
 //! What the slots of an object show as its unions change.
 
+use crate::tried;
 use cx_blocks::Blocks;
-use cx_store_cases::{Sample, Stop, run};
+use cx_store_cases::Stop;
 use std::alloc::Global;
 
 /// A class with a union that has another union as its second member.
@@ -19,7 +20,6 @@ const CALLS: [&str; 5] = [
 /// A line for the state after each list of calls: the four slots of the object, what stands behind them, and what stands
 /// where there is no object.
 pub(crate) fn slots_shown(alloc: Global) -> Result<String, Stop> {
-    let sample = Sample::read(alloc, TYPES)?;
     let mut script = String::new(alloc);
     let mut text = String::new(alloc);
     for calls in &CALLS {
@@ -27,7 +27,7 @@ pub(crate) fn slots_shown(alloc: Global) -> Result<String, Stop> {
         let Ok(mut blocks) = Blocks::new(alloc) else {
             return Err(Stop::Memory);
         };
-        run(alloc, &sample, &mut blocks, script.as_str())?;
+        tried(alloc, TYPES, script.as_str(), &mut blocks)?;
         for i in 0..5 {
             let slot = blocks.slot(0, i);
             let shown = format!(in alloc; "{slot:?} ")?;
